@@ -1,0 +1,5 @@
+pub mod Levels
+pub mod Banks
+pub mod Refusals
+pub mod State
+pub mod View

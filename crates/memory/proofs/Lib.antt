@@ -1,0 +1,4 @@
+pub mod Fetches
+pub mod Places
+pub mod Helds
+pub mod Wides

@@ -202,3 +202,17 @@ module _ (limit : ℕ) (ms bs : List ℕ) (p n : ℕ) (same : ms ≡ bs) (now-at
     goes-on after place f h s =
         let k : after ≡ p + size q = f ∙ ap (λ j. place-after p (Ok j)) e in
         rw k (turn limit bs p n now-at q here o (sym (s ∙ ap (λ j. storing limit j q) h)))
+
+-- what is left of the records once one of them has been read
+pub onward : (limit : ℕ) (bs : List ℕ) (p : ℕ) (rest : List Record) (r : Record) → from limit bs p ≡ Ok rest → item-at bs p ≡ Ok (Some r)
+    → (more : List Record) × (rest ≡ r ∷ more) × (from limit bs (p + size r) ≡ Ok more)
+onward limit bs p rest r e i =
+    by (storing limit p r) refl
+  where
+    split : (x : Result (List Record) Fault) → and-then x (λ rs. Ok (r ∷ rs)) ≡ Ok rest → (more : List Record) × (rest ≡ r ∷ more) × (x ≡ Ok more)
+    split (Ok more) f = (more, cc, refl)
+    split (Err x) f = absurd (let z : _≡_ {A = ℕ} 0 1 = cc in omega arith)
+
+    by : (s : Result (Unit {0}) Fault) → storing limit p r ≡ s → (more : List Record) × (rest ≡ r ∷ more) × (from limit bs (p + size r) ≡ Ok more)
+    by (Ok u) s = split (from limit bs (p + size r)) (sym (at-record limit bs p r i s) ∙ e)
+    by (Err x) s = absurd (let f = sym (at-refusal limit bs p r x i s) ∙ e in let z : _≡_ {A = ℕ} 0 1 = cc in omega arith)

@@ -62,8 +62,16 @@ registers v = 0 ∷ v .p ∷ v .l ∷ v .t ∷ v .x1 ∷ v .x2 ∷ v .e ∷ v .a
 -- the registers with register n set, which Z never is
 abbrev pub put-after : ℕ → ℕ → Work → Work
 put-after n w v = record {
-    p = cond (eqb n 1) w (v .p); l = cond (eqb n 2) w (v .l); t = cond (eqb n 3) w (v .t); x1 = cond (eqb n 4) w (v .x1);
-    x2 = cond (eqb n 5) w (v .x2); e = cond (eqb n 6) w (v .e); a = cond (eqb n 7) w (v .a); o = v .o; c = v .c }
+  p = cond (eqb n 1) w (v .p);
+  l = cond (eqb n 2) w (v .l);
+  t = cond (eqb n 3) w (v .t);
+  x1 = cond (eqb n 4) w (v .x1);
+  x2 = cond (eqb n 5) w (v .x2);
+  e = cond (eqb n 6) w (v .e);
+  a = cond (eqb n 7) w (v .a);
+  o = v .o;
+  c = v .c;
+}
 
 -- what setting register n answers: Z and what is above 7 are refused
 abbrev pub put-answer : ℕ → Result (Unit {0}) Refusal
@@ -92,6 +100,10 @@ told k e s = with-level k (taken (level-of k s) e) s
 -- a new processor: all zero, level 0 armed and enabled, the others disarmed and disabled
 abbrev pub initial : Cpu
 initial = record {
-    work = record { p = 0; l = 0; t = 0; x1 = 0; x2 = 0; e = 0; a = 0; o = false; c = false };
-    guard = record { protection = replicate 16 0; ii = false; ei = false; levels = preset 2 ∷ replicate 15 (preset 0) };
-    pp = false; mark = Unset; last = 0; violation = None }
+  work = record { p = 0; l = 0; t = 0; x1 = 0; x2 = 0; e = 0; a = 0; o = false; c = false };
+  guard = record { protection = replicate 16 0; ii = false; ei = false; levels = preset 2 ∷ replicate 15 (preset 0) };
+  pp = false;
+  mark = Unset;
+  last = 0;
+  violation = None;
+}

@@ -8,9 +8,13 @@ use Rattle.machine.specs.State.{Cpu, Machine}
 -- the cpu of a state
 abbrev pub cpu-of : State → Cpu
 cpu-of s = record {
-    work = s .work;
-    guard = record { protection = s .protection .registers; ii = s .ii; ei = s .ei; levels = records (s .levels) };
-    pp = s .pp; mark = s .mark; last = s .last; violation = s .violation }
+  work = s .work;
+  guard = record { protection = s .protection .registers; ii = s .ii; ei = s .ei; levels = records (s .levels) };
+  pp = s .pp;
+  mark = s .mark;
+  last = s .last;
+  violation = s .violation;
+}
 
 -- the machine of a state and the words of its memory
 abbrev pub machine-of : State → List ℕ → Machine

@@ -33,8 +33,15 @@ impl Level {
     pub fn preset(number: u8) -> Level
         ensures { λ r. ⌜ r ≡ numbered number ⌝ }
     {
-        let state = if number == 0 { LevelState::Disarmed } else { LevelState::Armed };
-        Level { state, enabled: number == 2 }
+        let state = if number == 0 {
+            LevelState::Disarmed
+        } else {
+            LevelState::Armed
+        };
+        Level {
+            state,
+            enabled: number == 2,
+        }
     }
 
     /// Takes an event: any pair of state and event that is not named changes nothing.

@@ -52,7 +52,17 @@ impl State {
         ensures { λ r. ⌜ cpu-of r ≡ initial ⌝ }
     {
         State {
-            work: Work { p: 0, l: 0, t: 0, x1: 0, x2: 0, e: 0, a: 0, o: false, c: false },
+            work: Work {
+                p: 0,
+                l: 0,
+                t: 0,
+                x1: 0,
+                x2: 0,
+                e: 0,
+                a: 0,
+                o: false,
+                c: false,
+            },
             protection: Protection::new(),
             ii: false,
             ei: false,

@@ -1,5 +1,9 @@
+pub mod Words
+pub mod Decode
 pub mod Levels
 pub mod Banks
 pub mod Refusals
 pub mod State
+pub mod Arithmetic
+pub mod Work
 pub mod View

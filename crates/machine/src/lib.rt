@@ -1,12 +1,23 @@
 //! The state of a Sigma 3: its registers, indicators, protection registers and levels.
 mod bank;
+mod instruction;
 mod level;
 mod protection;
 mod refusal;
 mod state;
+mod sum;
 mod work;
 
 pub use bank::Bank;
+pub use instruction::Condition;
+pub use instruction::Instruction;
+pub use instruction::Join;
+pub use instruction::LevelControl;
+pub use instruction::ReadFunction;
+pub use instruction::Transfer;
+pub use instruction::WriteFunction;
+pub use instruction::addresses;
+pub use instruction::decode;
 pub use level::Event;
 pub use level::Level;
 pub use level::LevelState;
@@ -16,4 +27,7 @@ pub use state::Mark;
 pub use state::State;
 pub use state::Violation;
 pub use state::ViolationKind;
+pub use sum::Sum;
+pub use sum::add;
+pub use sum::subtract;
 pub use work::Work;

@@ -1,9 +1,11 @@
 pub mod Words
+pub mod Arithmetic
 pub mod Decode
 pub mod Levels
 pub mod Banks
 pub mod Refusals
 pub mod State
-pub mod Arithmetic
 pub mod Work
+pub mod Step
+pub mod Calls
 pub mod View

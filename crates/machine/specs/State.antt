@@ -3,7 +3,7 @@ use mathlib.Core.Bool.{Bool, true, false, cond, _||_}
 use mathlib.Core.List.{List, [], _∷_}
 use Prim.Native.Nat.{ℕ}
 use lib.Dec.{eqb, ltb}
-use lib.ListN.{getD, replicate, set}
+use lib.ListN.{replicate, set}
 use Rattle.std.specs.declared.option.Option.{Option}
 use Rattle.std.specs.declared.option.Option.the-variants.{None}
 use Rattle.std.specs.declared.result.Result.{Result}
@@ -16,7 +16,7 @@ use Rattle.machine.specs.declared.state.Mark.{Mark}
 use Rattle.machine.specs.declared.state.Mark.the-variants.{Unset}
 use Rattle.machine.specs.declared.state.Violation.{Violation}
 use Rattle.machine.specs.declared.work.Work.{Work}
-use Rattle.machine.specs.Levels.{preset, taken}
+use Rattle.machine.specs.Levels.{preset, told as told-level}
 
 -- what only protected code may change: the protection registers, the inhibits II and EI, and the level records
 pub record Guard : Type 0 where
@@ -33,6 +33,7 @@ pub record Cpu : Type 0 where
   pub mark : Mark
   pub last : ℕ
   pub violation : Option Violation
+  pub switch : Bool
 
 -- a processor and the words of its memory
 pub record Machine : Type 0 where
@@ -41,11 +42,28 @@ pub record Machine : Type 0 where
 
 -- a cpu with other work
 abbrev pub set-work : Work → Cpu → Cpu
-set-work w s = record { work = w; guard = s .guard; pp = s .pp; mark = s .mark; last = s .last; violation = s .violation }
+set-work w s = record { work = w; guard = s .guard; pp = s .pp; mark = s .mark; last = s .last; violation = s .violation; switch = s .switch }
 
 -- a cpu with another guard
 abbrev pub set-guard : Guard → Cpu → Cpu
-set-guard g s = record { work = s .work; guard = g; pp = s .pp; mark = s .mark; last = s .last; violation = s .violation }
+set-guard g s = record { work = s .work; guard = g; pp = s .pp; mark = s .mark; last = s .last; violation = s .violation; switch = s .switch }
+
+-- a cpu with another PP, mark, last address or latest violation
+abbrev pub set-pp : Bool → Cpu → Cpu
+set-pp b s = record { work = s .work; guard = s .guard; pp = b; mark = s .mark; last = s .last; violation = s .violation; switch = s .switch }
+
+abbrev pub set-mark : Mark → Cpu → Cpu
+set-mark k s = record { work = s .work; guard = s .guard; pp = s .pp; mark = k; last = s .last; violation = s .violation; switch = s .switch }
+
+abbrev pub set-last : ℕ → Cpu → Cpu
+set-last a s = record { work = s .work; guard = s .guard; pp = s .pp; mark = s .mark; last = a; violation = s .violation; switch = s .switch }
+
+abbrev pub set-violation : Option Violation → Cpu → Cpu
+set-violation x s = record { work = s .work; guard = s .guard; pp = s .pp; mark = s .mark; last = s .last; violation = x; switch = s .switch }
+
+-- a guard with other inhibits
+abbrev pub set-inhibits : Bool → Bool → Guard → Guard
+set-inhibits ii ei g = record { protection = g .protection; ii = ii; ei = ei; levels = g .levels }
 
 -- a guard with other protection registers
 abbrev pub set-protection : List ℕ → Guard → Guard
@@ -89,13 +107,9 @@ protect-after n w ps = cond (ltb 15 n) ps (set ps n w)
 abbrev pub with-level : ℕ → Level → Cpu → Cpu
 with-level k l s = set-guard (set-levels (set (s .guard .levels) k l) (s .guard)) s
 
--- the record of level k, by default a disarmed and disabled one
-abbrev pub level-of : ℕ → Cpu → Level
-level-of k s = getD (s .guard .levels) k (preset 0)
-
 -- a cpu whose level k has taken an event
 abbrev pub told : ℕ → Event → Cpu → Cpu
-told k e s = with-level k (taken (level-of k s) e) s
+told k e s = set-guard (set-levels (told-level k e (s .guard .levels)) (s .guard)) s
 
 -- a new processor: all zero, level 0 armed and enabled, the others disarmed and disabled
 abbrev pub initial : Cpu
@@ -106,4 +120,5 @@ initial = record {
   mark = Unset;
   last = 0;
   violation = None;
+  switch = false;
 }

@@ -14,6 +14,7 @@ cpu-of s = record {
   mark = s .mark;
   last = s .last;
   violation = s .violation;
+  switch = s .switch;
 }
 
 -- the machine of a state and the words of its memory

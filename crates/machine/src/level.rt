@@ -1,6 +1,7 @@
 //! One interrupt level.
 ghost use mathlib.Core.Path.{_≡_};
-ghost use Rattle.machine.specs.Levels.{preset as numbered, taken};
+ghost use Rattle.machine.specs.Levels.{controlled, preset as numbered, sighted, taken};
+use crate::instruction::LevelControl;
 
 /// What a level is doing.
 #[derive(Clone, Copy, PartialEq, Eq, Debug)]
@@ -19,6 +20,15 @@ pub enum Event {
     Trigger,
     Enter,
     Exit,
+    Violate,
+}
+
+/// What a level means for those of a higher number: it enters, it blocks them, or they are looked at next.
+#[derive(Clone, Copy, PartialEq, Eq, Debug)]
+pub enum Sight {
+    Enters,
+    Blocks,
+    Passes,
 }
 
 /// The record of a level: its state, and whether it is enabled.
@@ -54,7 +64,32 @@ impl Level {
             (LevelState::Armed, Event::Trigger) => LevelState::Waiting,
             (LevelState::Waiting, Event::Enter) => LevelState::Active,
             (LevelState::Active, Event::Exit) => LevelState::Armed,
+            (LevelState::Disarmed | LevelState::Armed, Event::Violate) => LevelState::Waiting,
             (state, _) => state,
         };
+    }
+
+    /// What WD does to a level: enabling is apart from the events.
+    pub fn control(&mut self, control: LevelControl)
+        ensures { λ _. ⌜ now (self .exit) ≡ controlled control (now (self .entry)) ⌝ }
+    {
+        match control {
+            LevelControl::Disarm => self.take(Event::Disarm),
+            LevelControl::Arm => self.take(Event::Arm),
+            LevelControl::Trigger => self.take(Event::Trigger),
+            LevelControl::Disable => self.enabled = false,
+            LevelControl::Enable => self.enabled = true,
+        }
+    }
+
+    /// What a level means for those of a higher number.
+    pub fn sight(self, inhibited: bool) -> Sight
+        ensures { λ r. ⌜ r ≡ sighted inhibited self ⌝ }
+    {
+        match (inhibited, self.state, self.enabled) {
+            (false, LevelState::Active, _) => Sight::Blocks,
+            (false, LevelState::Waiting, true) => Sight::Enters,
+            _ => Sight::Passes,
+        }
     }
 }

@@ -1,5 +1,6 @@
 //! The state of a Sigma 3: its registers, indicators, protection registers and levels.
 mod bank;
+mod call;
 mod instruction;
 mod level;
 mod protection;
@@ -9,6 +10,11 @@ mod sum;
 mod work;
 
 pub use bank::Bank;
+pub use call::Answer;
+pub use call::Call;
+pub use call::Counts;
+pub use call::Outcome;
+pub use call::Signalled;
 pub use instruction::Condition;
 pub use instruction::Instruction;
 pub use instruction::Join;
@@ -21,6 +27,7 @@ pub use instruction::decode;
 pub use level::Event;
 pub use level::Level;
 pub use level::LevelState;
+pub use level::Sight;
 pub use protection::Protection;
 pub use refusal::Refusal;
 pub use state::Mark;

@@ -7,6 +7,9 @@ ghost use Rattle.machine.specs.Refusals.{number as numbered};
 pub enum Refusal {
     NoRegister,
     NoAddress,
+    NoLevel,
+    LevelZero,
+    RunTooLong,
 }
 
 impl Refusal {
@@ -17,6 +20,9 @@ impl Refusal {
         match self {
             Refusal::NoRegister => 4,
             Refusal::NoAddress => 5,
+            Refusal::NoLevel => 6,
+            Refusal::LevelZero => 7,
+            Refusal::RunTooLong => 8,
         }
     }
 }

@@ -32,7 +32,7 @@ pub struct Violation {
     pub aim: u16,
 }
 
-/// The registers, indicators, protection registers, levels, mark, last address and latest violation.
+/// The registers, indicators, protection registers, levels, mark, last address, latest violation and protect switch.
 #[derive(Drop)]
 pub struct State {
     pub work: Work,
@@ -44,6 +44,7 @@ pub struct State {
     pub mark: Mark,
     pub last: u16,
     pub violation: Option<Violation>,
+    pub switch: bool,
 }
 
 impl State {
@@ -71,6 +72,7 @@ impl State {
             mark: Mark::Unset,
             last: 0,
             violation: None,
+            switch: false,
         }
     }
 

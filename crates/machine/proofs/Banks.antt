@@ -38,3 +38,7 @@ pub getD-nth : {T : Type 0} (xs : List T) (k : ℕ) (d x : T) → Some x ≡ nth
 getD-nth [] k d x e = absurd (let z : _≡_ {A = ℕ} 0 1 = cc in omega arith)
 getD-nth (y ∷ xs) zero d x e = cc
 getD-nth (y ∷ xs) (suc k) d x e = getD-nth xs k d x e
+
+-- a lent record that a function f has changed
+pub changed : {T : Type 0} (f : T → T) (b : Bank T) (k : ℕ) (d x w : T) → Some x ≡ nth (records b) k → w ≡ f x → records (with-record b k w) ≡ set (records b) k (f (getD (records b) k d))
+changed f b k d x w e g = records-with b k w ∙ ap (set (records b) k) (g ∙ ap f (getD-nth (records b) k d x e))

@@ -10,11 +10,12 @@ use Rattle.machine.specs.declared.instruction.Join.the-variants.{And as AndJoi
 use Rattle.machine.specs.declared.instruction.Transfer.{Transfer}
 use Rattle.machine.specs.declared.instruction.LevelControl.the-variants.{Disarm, Arm, Disable, Enable, Trigger}
 use Rattle.machine.specs.declared.instruction.ReadFunction.{ReadFunction}
-use Rattle.machine.specs.declared.instruction.ReadFunction.the-variants.{Protection as ReadProtection, Status, Enabled, Waiting, Active, Unlisted as NoRead}
+use Rattle.machine.specs.declared.instruction.ReadFunction.the-variants.{Protection as ReadProtection, Status, Levels as ReadLevels, Unlisted as NoRead}
 use Rattle.machine.specs.declared.instruction.WriteFunction.{WriteFunction}
 use Rattle.machine.specs.declared.instruction.WriteFunction.the-variants.{Protection as WriteProtection, Inhibits, Wait, Exit, Levels, Unlisted as NoWrite}
 use Rattle.machine.specs.declared.instruction.Instruction.{Instruction}
 use Rattle.machine.specs.declared.instruction.Instruction.the-variants.{Lda, And, Add, Sub, Ldx, Sta, Im, B, Branch, Copy, ReadRegister, WriteRegister, Read, Write, NotCarried}
+use Rattle.machine.specs.declared.level.Property.the-variants.{Enabled, Waiting, Active}
 use Rattle.machine.specs.declared.work.Work.{Work}
 use Rattle.machine.specs.Words.{bit, read, word}
 
@@ -76,9 +77,9 @@ abbrev pub read-function : ℕ → ℕ → ReadFunction
 read-function mode f =
     cond (eqb mode 0 && (leb 0x010 f && leb f 0x01f)) (ReadProtection (f - 0x010))
     (cond (eqb mode 0 && eqb f 0x020) Status
-    (cond (eqb mode 1 && eqb f 0) Enabled
-    (cond (eqb mode 1 && eqb f 1) Waiting
-    (cond (eqb mode 1 && eqb f 2) Active NoRead))))
+    (cond (eqb mode 1 && eqb f 0) (ReadLevels Enabled)
+    (cond (eqb mode 1 && eqb f 1) (ReadLevels Waiting)
+    (cond (eqb mode 1 && eqb f 2) (ReadLevels Active) NoRead))))
 
 -- the function of WD
 abbrev pub write-function : ℕ → ℕ → WriteFunction

@@ -1,4 +1,5 @@
 -- Levels: what events and controls make of one, which one may enter, and which one exits.
+use mathlib.Core.Path.{_≡_}
 use mathlib.Core.Bool.{Bool, true, false, cond}
 use mathlib.Core.List.{List}
 use Prim.Native.Nat.{ℕ, zero, suc, _+_, _-_, _*_, _^_}
@@ -8,6 +9,8 @@ use Rattle.std.specs.declared.option.Option.{Option}
 use Rattle.std.specs.declared.option.Option.the-variants.{Some, None}
 use Rattle.machine.specs.declared.instruction.LevelControl.{LevelControl}
 use Rattle.machine.specs.declared.instruction.LevelControl.the-variants.{Disarm as DisarmControl, Arm as ArmControl, Disable, Enable, Trigger as TriggerControl}
+use Rattle.machine.specs.declared.level.Property.{Property}
+use Rattle.machine.specs.declared.level.Property.the-variants.{Enabled as EnabledProperty, Waiting as WaitingProperty, Active as ActiveProperty}
 use Rattle.machine.specs.declared.level.Sight.{Sight}
 use Rattle.machine.specs.declared.level.Sight.the-variants.{Enters, Blocks, Passes}
 use Rattle.machine.specs.Arithmetic.{one}
@@ -78,11 +81,6 @@ abbrev pub control-each : ℕ → ℕ → LevelControl → ℕ → List Level �
 control-each zero k c a ls = ls
 control-each (suc n) k c a ls = control-each n (suc k) c a (cond (bit a k) (set ls k (controlled c (level-at ls k))) ls)
 
--- a word with bit k set for each of the n levels from k on that has the property
-abbrev pub bits-of : ℕ → ℕ → (Level → Bool) → List Level → ℕ
-bits-of zero k has ls = 0
-bits-of (suc n) k has ls = one (has (level-at ls k)) * 2 ^ (15 - k) + bits-of n (suc k) has ls
-
 -- whether a state is waiting, and whether it is active
 abbrev pub is-waiting : LevelState → Bool
 is-waiting Disarmed = false
@@ -95,6 +93,21 @@ is-active Disarmed = false
 is-active Armed = false
 is-active Waiting = false
 is-active Active = true
+
+-- what RD shows of a level
+abbrev pub has : Property → Level → Bool
+has EnabledProperty l = l .enabled
+has WaitingProperty l = is-waiting (l .state)
+has ActiveProperty l = is-active (l .state)
+
+-- a word with bit k set for each of the n levels from k on that has a property
+abbrev pub bits-of : ℕ → ℕ → Property → List Level → ℕ
+bits-of zero k p ls = 0
+bits-of (suc n) k p ls = one (has p (level-at ls k)) * 2 ^ (15 - k) + bits-of n (suc k) p ls
+
+-- no level waits
+abbrev pub Quiet : List Level → Type 0
+Quiet ls = (k : ℕ) → is-waiting (level-at ls k .state) ≡ false
 
 -- levels 0 and 1 are never inhibited; II inhibits 2 to 7, and EI 8 to 15
 abbrev pub inhibited : Bool → Bool → ℕ → Bool

@@ -9,7 +9,7 @@ use Rattle.std.specs.declared.option.Option.the-variants.{Some, None}
 use Rattle.machine.specs.declared.call.Outcome.{Outcome}
 use Rattle.machine.specs.declared.call.Outcome.the-variants.{Entered, Idle, Violated, Stalled, NotCarried as Uncarried, Done}
 use Rattle.machine.specs.declared.instruction.ReadFunction.{ReadFunction}
-use Rattle.machine.specs.declared.instruction.ReadFunction.the-variants.{Protection as ReadProtection, Status, Enabled, Waiting, Active, Unlisted as NoRead}
+use Rattle.machine.specs.declared.instruction.ReadFunction.the-variants.{Protection as ReadProtection, Status, Levels as ReadLevels, Unlisted as NoRead}
 use Rattle.machine.specs.declared.instruction.WriteFunction.{WriteFunction}
 use Rattle.machine.specs.declared.instruction.WriteFunction.the-variants.{Protection as WriteProtection, Inhibits, Wait as WaitFunction, Exit as ExitFunction, Levels, Unlisted as NoWrite}
 use Rattle.machine.specs.declared.instruction.Instruction.{Instruction}
@@ -22,7 +22,7 @@ use Rattle.machine.specs.declared.state.ViolationKind.the-variants.{Entry, Ope
 use Rattle.machine.specs.declared.work.Work.{Work}
 use Rattle.machine.specs.Arithmetic.{added, one, subtracted}
 use Rattle.machine.specs.Decode.{address, decoded, relative}
-use Rattle.machine.specs.Levels.{bits-of, control-each, is-active, is-waiting, level-at, lowest, released}
+use Rattle.machine.specs.Levels.{bits-of, control-each, is-active, level-at, lowest, released}
 use Rattle.machine.specs.State.{Cpu, Guard, Machine, protect-after, put-after, set-guard, set-inhibits, set-last, set-levels, set-mark, set-pp, set-protection, set-violation, set-work, told}
 use Rattle.machine.specs.Words.{bit, protects, read, word}
 use Rattle.machine.specs.Work.{branched, copied, flagged, register, set-a, set-oc, set-p, set-x1}
@@ -78,9 +78,7 @@ leave a m =
 abbrev pub read-function : ReadFunction → Cpu → Work → Work
 read-function (ReadProtection n) s v = set-a (getD (s .guard .protection) n 0) v
 read-function Status s v = set-a (status s) v
-read-function Enabled s v = set-a (bits-of 16 0 (λ l. l .enabled) (s .guard .levels)) v
-read-function Waiting s v = set-a (bits-of 16 0 (λ l. is-waiting (l .state)) (s .guard .levels)) v
-read-function Active s v = set-a (bits-of 16 0 (λ l. is-active (l .state)) (s .guard .levels)) v
+read-function (ReadLevels p) s v = set-a (bits-of 16 0 p (s .guard .levels)) v
 read-function NoRead s v = set-oc true true v
 
 -- a function of WD: it acts from A; levels 1 to 15 take a control, level by level

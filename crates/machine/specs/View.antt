@@ -9,7 +9,7 @@ use Rattle.machine.specs.State.{Cpu, Machine}
 abbrev pub cpu-of : State → Cpu
 cpu-of s = record {
   work = s .work;
-  guard = record { protection = s .protection .registers; ii = s .ii; ei = s .ei; levels = records (s .levels) };
+  guard = record { protection = s .protection .registers; ii = s .ii; ei = s .ei; levels = records (s .levels .bank) };
   pp = s .pp;
   mark = s .mark;
   last = s .last;

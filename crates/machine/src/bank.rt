@@ -2,7 +2,7 @@
 ghost use mathlib.Core.Path.{_≡_};
 ghost use mathlib.Core.List.{_∷_};
 ghost use Prim.Native.Nat.{ℕ, _<_};
-ghost use lib.ListN.{replicate};
+ghost use lib.ListN.{replicate, set};
 ghost use ghost.Atoms.{sem};
 ghost use denote.Follow.{follows-if};
 ghost use denote.Ref.{name, now as behind};
@@ -11,6 +11,10 @@ ghost use Rattle.std.specs.Options.{mapped};
 ghost use Rattle.std.specs.shelf.Maps.{nth};
 ghost use Rattle.machine.specs.contracts.bank.Bank.{the-row};
 ghost use Rattle.machine.specs.Banks.{records, with-record};
+ghost use Rattle.machine.specs.Levels.{controlled, level-at, told};
+use crate::instruction::LevelControl;
+use crate::level::Event;
+use crate::level::Level;
 
 /// A record for each level: sixteen named fields, since an element of an array cannot be lent by contract.
 #[derive(Drop)]
@@ -57,6 +61,31 @@ impl<T: Copy> Bank<T> {
             l15: other,
         }
     }
+
+    /// The record of a level, or `None` above level 15.
+    pub fn at(&self, number: u8) -> Option<T>
+        ensures { λ r. ⌜ r ≡ nth (records (now (self .entry))) number ⌝ }
+    {
+        match number {
+            0 => Some(self.l0),
+            1 => Some(self.l1),
+            2 => Some(self.l2),
+            3 => Some(self.l3),
+            4 => Some(self.l4),
+            5 => Some(self.l5),
+            6 => Some(self.l6),
+            7 => Some(self.l7),
+            8 => Some(self.l8),
+            9 => Some(self.l9),
+            10 => Some(self.l10),
+            11 => Some(self.l11),
+            12 => Some(self.l12),
+            13 => Some(self.l13),
+            14 => Some(self.l14),
+            15 => Some(self.l15),
+            _ => None,
+        }
+    }
 }
 
 impl<T> Bank<T> {
@@ -83,6 +112,35 @@ impl<T> Bank<T> {
             14 => Some(&mut self.l14),
             15 => Some(&mut self.l15),
             _ => None,
+        }
+    }
+}
+
+impl Bank<Level> {
+    /// Sets the record of a level, or does nothing above level 15; the other fifteen stay.
+    pub fn put(&mut self, number: u8, level: Level)
+        ensures { λ _. ⌜ records (now (self .exit)) ≡ set (records (now (self .entry))) number level ⌝ }
+    {
+        if let Some(lent) = self.get(number) {
+            *lent = level;
+        }
+    }
+
+    /// Hands an event to a level, or does nothing above level 15; the other fifteen stay.
+    pub fn tell(&mut self, number: u8, event: Event)
+        ensures { λ _. ⌜ records (now (self .exit)) ≡ told number event (records (now (self .entry))) ⌝ }
+    {
+        if let Some(level) = self.get(number) {
+            level.take(event);
+        }
+    }
+
+    /// Hands a control of WD to a level, or does nothing above level 15; the other fifteen stay.
+    pub fn control(&mut self, number: u8, control: LevelControl)
+        ensures { λ _. ⌜ records (now (self .exit)) ≡ set (records (now (self .entry))) number (controlled control (level-at (records (now (self .entry))) number)) ⌝ }
+    {
+        if let Some(level) = self.get(number) {
+            level.control(control);
         }
     }
 }

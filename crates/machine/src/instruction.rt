@@ -1,6 +1,9 @@
 //! Instruction words, decoded.
 ghost use mathlib.Core.Path.{_≡_};
 ghost use Rattle.machine.specs.Decode.{decoded, has-address, transferred};
+use crate::level::Property;
+use crate::level::PropertyDebug;
+use crate::level::PropertyPartialEq;
 
 /// The condition of a branch, by its mnemonic.
 #[derive(Clone, Copy, PartialEq, Eq, Debug)]
@@ -41,9 +44,7 @@ pub struct Transfer {
 pub enum ReadFunction {
     Protection(u8),
     Status,
-    Enabled,
-    Waiting,
-    Active,
+    Levels(Property),
     Unlisted,
 }
 
@@ -124,9 +125,9 @@ pub fn decode(word: u16, address: u16, target: u16) -> Instruction
             address,
         ),
         (1, 0, 0x020) => Instruction::Read(ReadFunction::Status, address),
-        (1, 1, 0) => Instruction::Read(ReadFunction::Enabled, address),
-        (1, 1, 1) => Instruction::Read(ReadFunction::Waiting, address),
-        (1, 1, 2) => Instruction::Read(ReadFunction::Active, address),
+        (1, 1, 0) => Instruction::Read(ReadFunction::Levels(Property::Enabled), address),
+        (1, 1, 1) => Instruction::Read(ReadFunction::Levels(Property::Waiting), address),
+        (1, 1, 2) => Instruction::Read(ReadFunction::Levels(Property::Active), address),
         (1, _, _) => Instruction::Read(ReadFunction::Unlisted, address),
         (4, _, _) => Instruction::B(address),
         (6, _, _) if bits == 0 => Instruction::Branch(Condition::Bno, target),

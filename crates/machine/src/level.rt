@@ -1,6 +1,6 @@
 //! One interrupt level.
 ghost use mathlib.Core.Path.{_≡_};
-ghost use Rattle.machine.specs.Levels.{controlled, preset as numbered, sighted, taken};
+ghost use Rattle.machine.specs.Levels.{controlled, has, preset as numbered, sighted, taken};
 use crate::instruction::LevelControl;
 
 /// What a level is doing.
@@ -21,6 +21,14 @@ pub enum Event {
     Enter,
     Exit,
     Violate,
+}
+
+/// What RD shows of a level.
+#[derive(Clone, Copy, PartialEq, Eq, Debug)]
+pub enum Property {
+    Enabled,
+    Waiting,
+    Active,
 }
 
 /// What a level means for those of a higher number: it enters, it blocks them, or they are looked at next.
@@ -90,6 +98,17 @@ impl Level {
             (false, LevelState::Active, _) => Sight::Blocks,
             (false, LevelState::Waiting, true) => Sight::Enters,
             _ => Sight::Passes,
+        }
+    }
+
+    /// Whether a level has a property.
+    pub fn has(self, property: Property) -> bool
+        ensures { λ r. ⌜ r ≡ has property self ⌝ }
+    {
+        match property {
+            Property::Enabled => self.enabled,
+            Property::Waiting => matches!(self.state, LevelState::Waiting),
+            Property::Active => matches!(self.state, LevelState::Active),
         }
     }
 }

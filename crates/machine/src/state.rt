@@ -1,10 +1,9 @@
 //! A processor, all but its memory.
 ghost use mathlib.Core.Path.{_≡_};
 ghost use Rattle.machine.specs.View.{cpu-of};
-ghost use Rattle.machine.specs.State.{initial, told, with-level};
-use crate::bank::Bank;
-use crate::level::Event;
+ghost use Rattle.machine.specs.State.{initial};
 use crate::level::Level;
+use crate::levels::Levels;
 use crate::protection::Protection;
 use crate::work::Work;
 
@@ -39,7 +38,7 @@ pub struct State {
     pub protection: Protection,
     pub ii: bool,
     pub ei: bool,
-    pub levels: Bank<Level>,
+    pub levels: Levels,
     pub pp: bool,
     pub mark: Mark,
     pub last: u16,
@@ -67,30 +66,12 @@ impl State {
             protection: Protection::new(),
             ii: false,
             ei: false,
-            levels: Bank::new(Level::preset(2), Level::preset(0)),
+            levels: Levels::new(Level::preset(2), Level::preset(0)),
             pp: false,
             mark: Mark::Unset,
             last: 0,
             violation: None,
             switch: false,
-        }
-    }
-
-    /// Sets the record of a level, or does nothing above level 15.
-    pub fn set_level(&mut self, number: u8, level: Level)
-        ensures { λ _. ⌜ cpu-of (now (self .exit)) ≡ with-level number level (cpu-of (now (self .entry))) ⌝ }
-    {
-        if let Some(lent) = self.levels.get(number) {
-            *lent = level;
-        }
-    }
-
-    /// Hands an event to a level, or does nothing above level 15.
-    pub fn tell(&mut self, number: u8, event: Event)
-        ensures { λ _. ⌜ cpu-of (now (self .exit)) ≡ told number event (cpu-of (now (self .entry))) ⌝ }
-    {
-        if let Some(level) = self.levels.get(number) {
-            level.take(event);
         }
     }
 }

@@ -77,7 +77,7 @@ abbrev pub told : ℕ → Event → List Level → List Level
 told k e ls = set ls k (taken (level-at ls k) e)
 
 -- of the n levels from k on, those whose bit in a is 1 take a control, one after the other
-abbrev pub control-each : ℕ → ℕ → LevelControl → ℕ → List Level → List Level
+unfoldable pub control-each : ℕ → ℕ → LevelControl → ℕ → List Level → List Level
 control-each zero k c a ls = ls
 control-each (suc n) k c a ls = control-each n (suc k) c a (cond (bit a k) (set ls k (controlled c (level-at ls k))) ls)
 
@@ -101,7 +101,7 @@ has WaitingProperty l = is-waiting (l .state)
 has ActiveProperty l = is-active (l .state)
 
 -- a word with bit k set for each of the n levels from k on that has a property
-abbrev pub bits-of : ℕ → ℕ → Property → List Level → ℕ
+unfoldable pub bits-of : ℕ → ℕ → Property → List Level → ℕ
 bits-of zero k p ls = 0
 bits-of (suc n) k p ls = one (has p (level-at ls k)) * 2 ^ (15 - k) + bits-of n (suc k) p ls
 

@@ -26,7 +26,10 @@ impl Levels {
     pub fn new(first: Level, other: Level) -> Levels
         ensures { λ r. ⌜ records (r .bank) ≡ first ∷ replicate 15 other ⌝ }
     {
-        Levels { bank: Bank::new(first, other), calm: false }
+        Levels {
+            bank: Bank::new(first, other),
+            calm: false,
+        }
     }
 
     /// The record of a level; above level 15 it is disarmed and disabled.

@@ -6,8 +6,10 @@ mod level;
 mod levels;
 mod protection;
 mod refusal;
+mod scans;
 mod state;
 mod sum;
+mod words;
 mod work;
 
 pub use bank::Bank;
@@ -40,4 +42,5 @@ pub use state::ViolationKind;
 pub use sum::Sum;
 pub use sum::add;
 pub use sum::subtract;
+pub use words::bit_of;
 pub use work::Work;

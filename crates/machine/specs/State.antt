@@ -3,7 +3,7 @@ use mathlib.Core.Bool.{Bool, true, false, cond, _||_}
 use mathlib.Core.List.{List, [], _∷_}
 use Prim.Native.Nat.{ℕ}
 use lib.Dec.{eqb, ltb}
-use lib.ListN.{replicate, set}
+use lib.ListN.{getD, replicate, set}
 use Rattle.std.specs.declared.option.Option.{Option}
 use Rattle.std.specs.declared.option.Option.the-variants.{None}
 use Rattle.std.specs.declared.result.Result.{Result}
@@ -102,6 +102,10 @@ protect-answer n = cond (ltb 15 n) (Err NoRegister) (Ok tt)
 -- the protection registers after it
 abbrev pub protect-after : ℕ → ℕ → List ℕ → List ℕ
 protect-after n w ps = cond (ltb 15 n) ps (set ps n w)
+
+-- protection register n; above 15 it reads as 0
+abbrev pub protection-word : ℕ → List ℕ → ℕ
+protection-word n ps = cond (ltb 15 n) 0 (getD ps n 0)
 
 -- a cpu with the record of level k set, and those of the other fifteen as they were
 abbrev pub with-level : ℕ → Level → Cpu → Cpu

@@ -3,7 +3,7 @@ use mathlib.Core.Bool.{Bool, true, false, cond, not, _&&_}
 use mathlib.Core.List.{List}
 use Prim.Native.Nat.{ℕ, _+_, _*_}
 use lib.Bits.{bitAnd}
-use lib.ListN.{getD, set}
+use lib.ListN.{set}
 use Rattle.std.specs.declared.option.Option.{Option}
 use Rattle.std.specs.declared.option.Option.the-variants.{Some, None}
 use Rattle.machine.specs.declared.call.Outcome.{Outcome}
@@ -23,7 +23,7 @@ use Rattle.machine.specs.declared.work.Work.{Work}
 use Rattle.machine.specs.Arithmetic.{added, one, subtracted}
 use Rattle.machine.specs.Decode.{address, decoded, relative}
 use Rattle.machine.specs.Levels.{bits-of, control-each, is-active, level-at, lowest, released}
-use Rattle.machine.specs.State.{Cpu, Guard, Machine, protect-after, put-after, set-guard, set-inhibits, set-last, set-levels, set-mark, set-pp, set-protection, set-violation, set-work, told}
+use Rattle.machine.specs.State.{Cpu, Guard, Machine, protect-after, protection-word, put-after, set-guard, set-inhibits, set-last, set-levels, set-mark, set-pp, set-protection, set-violation, set-work, told}
 use Rattle.machine.specs.Words.{bit, protects, read, word}
 use Rattle.machine.specs.Work.{branched, copied, flagged, register, set-a, set-oc, set-p, set-x1}
 
@@ -53,30 +53,31 @@ status s = one (s .pp) * 16 + one (s .guard .ii) * 8 + one (s .guard .ei) * 4 + 
 abbrev pub entry-of : ℕ → List ℕ → ℕ
 entry-of k ws = read ws (0x0100 + k)
 
--- entry of level k: the status words go to q and q + 1, and P to q + 2
+-- the cpu after entry of level k, whose cell holds q: P is q + 2, PP 1, and the wait mark is cleared
+abbrev pub enter-cpu : ℕ → ℕ → Cpu → Cpu
+enter-cpu k q s = set-mark Unset (set-pp true (set-work (set-p (word (q + 2)) (s .work)) (told k Enter s)))
+
+-- entry of level k: the status words go to q and q + 1
 abbrev pub enter : ℕ → Machine → Machine
 enter k m =
     let q : ℕ = entry-of k (m .words) in
-    let s : Cpu = m .cpu in
-    record {
-      cpu = set-mark Unset (set-pp true (set-work (set-p (word (q + 2)) (s .work)) (told k Enter s)));
-      words = set (set (m .words) q (status s)) (word (q + 1)) (s .work .p);
-    }
+    record { cpu = enter-cpu k q (m .cpu); words = set (set (m .words) q (status (m .cpu))) (word (q + 1)) (m .cpu .work .p) }
 
--- exit by the status words at a and a + 1: the lowest-numbered active level exits, and PP stays 1 with the switch off
-abbrev pub leave : ℕ → Machine → Machine
-leave a m =
-    let x : ℕ = read (m .words) a in
-    let p : ℕ = read (m .words) (word (a + 1)) in
-    let s : Cpu = m .cpu in
+-- the cpu after an exit by the status words x and p: the lowest-numbered active level exits, and PP stays 1 with the switch off
+abbrev pub leave-cpu : ℕ → ℕ → Cpu → Cpu
+leave-cpu x p s =
     let g : Guard = set-inhibits (bit x 12) (bit x 13) (set-levels (released 16 0 (s .guard .levels)) (s .guard)) in
-    on-cpu (λ s. set-pp (cond (s .switch) (bit x 11) true) (set-guard g (set-work (set-oc (bit x 14) (bit x 15) (set-p p (s .work))) s))) m
+    set-pp (cond (s .switch) (bit x 11) true) (set-guard g (set-work (set-oc (bit x 14) (bit x 15) (set-p p (s .work))) s))
+
+-- exit by the status words at a and a + 1
+abbrev pub leave : ℕ → Machine → Machine
+leave a m = on-cpu (leave-cpu (read (m .words) a) (read (m .words) (word (a + 1)))) m
 
 -- AN INSTRUCTION ACTS, on the machine as the fetch left it
 
 -- a function of RD: it loads A, or sets O and C where it is not listed
 abbrev pub read-function : ReadFunction → Cpu → Work → Work
-read-function (ReadProtection n) s v = set-a (getD (s .guard .protection) n 0) v
+read-function (ReadProtection n) s v = set-a (protection-word n (s .guard .protection)) v
 read-function Status s v = set-a (status s) v
 read-function (ReadLevels p) s v = set-a (bits-of 16 0 p (s .guard .levels)) v
 read-function NoRead s v = set-oc true true v
@@ -151,11 +152,16 @@ judge true ps i (stores ea) = cond (protects ps ea) (Some (record { kind = Store
 judge true ps i (privileged ea) = Some (record { kind = Operation; place = i; aim = ea })
 judge true ps i none-such = None
 
--- a violation: P and the last address stay, PP is as the fetch left it, level 0 waits; if that is active, the wait mark is set
+-- whether level 0 is active
+abbrev pub stalls : Cpu → Bool
+stalls s = is-active (level-at (s .guard .levels) 0 .state)
+
+-- the cpu after a violation: P and the last address stay, PP is as the fetch left it, level 0 waits; if that is active, the wait mark is set
+abbrev pub violate-cpu : Bool → Violation → Cpu → Cpu
+violate-cpu pp x s = set-violation (Some x) (set-mark (cond (stalls s) Wait Unset) (set-pp pp (told 0 Violate s)))
+
 abbrev pub violate : Bool → Violation → Machine → Machine
-violate pp x m =
-    let stalls : Bool = is-active (level-at (m .cpu .guard .levels) 0 .state) in
-    on-cpu (λ s. set-violation (Some x) (set-mark (cond stalls Wait Unset) (set-pp pp (told 0 Violate s)))) m
+violate pp x m = on-cpu (violate-cpu pp x) m
 
 -- it is a stall where level 0 is active
 abbrev pub violation : Bool → Violation → Outcome
@@ -163,7 +169,7 @@ violation true x = Stalled x
 violation false x = Violated x
 
 abbrev pub violated : Bool → Violation → Machine → Moment
-violated pp x m = record { before = m; outcome = violation (is-active (level-at (m .cpu .guard .levels) 0 .state)) x; after = violate pp x m }
+violated pp x m = record { before = m; outcome = violation (stalls (m .cpu)) x; after = violate pp x m }
 
 -- THE FETCH
 
@@ -174,9 +180,12 @@ fetch-pp true true page = Some page
 fetch-pp true false true = None
 fetch-pp true false false = Some false
 
--- the machine after a fetch: P is the address of the next instruction, and the exit mark is cleared
+-- the cpu after a fetch: P is the address of the next instruction, and the exit mark is cleared
+abbrev pub fetch-cpu : Bool → Cpu → Cpu
+fetch-cpu pp s = set-last (s .work .p) (set-mark Unset (set-pp pp (set-work (set-p (word (s .work .p + 1)) (s .work)) s)))
+
 abbrev pub fetched : Bool → Machine → Machine
-fetched pp m = on-cpu (λ s. set-last (s .work .p) (set-mark Unset (set-pp pp (set-work (set-p (word (s .work .p + 1)) (s .work)) s)))) m
+fetched pp m = on-cpu (fetch-cpu pp) m
 
 -- the instruction at P
 unfoldable pub instruction : Machine → Instruction

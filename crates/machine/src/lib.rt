@@ -1,4 +1,5 @@
 //! The state of a Sigma 3: its registers, indicators, protection registers and levels.
+mod acts;
 mod bank;
 mod call;
 mod instruction;

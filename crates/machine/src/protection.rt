@@ -2,7 +2,8 @@
 ghost use mathlib.Core.Path.{_≡_};
 ghost use Prim.Native.Nat.{ℕ, _<_};
 ghost use lib.ListN.{replicate};
-ghost use Rattle.machine.specs.State.{protect-after, protect-answer};
+ghost use Rattle.machine.specs.State.{protect-after, protect-answer, protection-word};
+ghost use Rattle.machine.specs.Words.{protects};
 use crate::refusal::Refusal;
 
 /// Sixteen registers with a bit for each page.
@@ -36,5 +37,24 @@ impl Protection {
         }
         self.registers[number as usize] = word;
         Ok(())
+    }
+
+    /// Register 0 to 15; any other reads as 0.
+    pub fn word(&self, number: u8) -> u16
+        ensures { λ r. ⌜ r ≡ protection-word number (now (self .entry) .registers) ⌝ }
+    {
+        if number > 15 {
+            0
+        } else {
+            self.registers[number as usize]
+        }
+    }
+
+    /// Whether an address lies in a protected page.
+    pub fn protects(&self, address: u16) -> bool
+        ensures { λ r. ⌜ r ≡ protects (now (self .entry) .registers) address ⌝ }
+    {
+        let page = address / 256;
+        (self.registers[(page / 16) as usize] >> (15 - page % 16)) % 2 == 1
     }
 }

@@ -2,8 +2,8 @@
 use mathlib.Core.Bool.{cond}
 use mathlib.Core.List.{List}
 use Prim.Native.Nat.{ℕ}
-use lib.Dec.{leb, ltb}
-use lib.ListN.{getD, length, set}
+use lib.Dec.{leb}
+use lib.ListN.{length, set}
 use Rattle.std.specs.declared.result.Result.{Result}
 use Rattle.std.specs.declared.result.Result.the-variants.{Ok, Err}
 use Rattle.machine.specs.declared.refusal.Refusal.{Refusal}
@@ -33,7 +33,3 @@ deposited a w m = set-words (set (m .words) a w) m
 -- what a deposit at address a answers: at or above the size it is refused
 abbrev pub deposit-answer : ℕ → List ℕ → Result (Unit {0}) Refusal
 deposit-answer a ws = cond (leb (length ws) a) (Err NoAddress) (Ok tt)
-
--- what a look at address a answers: at or above the size it is refused
-abbrev pub word-answer : ℕ → List ℕ → Result ℕ Refusal
-word-answer a ws = cond (ltb a (length ws)) (Ok (getD ws a 0)) (Err NoAddress)

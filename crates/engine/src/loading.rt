@@ -26,7 +26,7 @@ impl<M: Memory> Processor<Idle, M> {
             Record::Register { number, word } => {
                 let _ = self.state.work.put(number, word);
             }
-            Record::Level { number, state } => self.state.set_level(number, Level::preset(state)),
+            Record::Level { number, state } => self.state.levels.put(number, Level::preset(state)),
         }
     }
 

@@ -3,7 +3,7 @@ ghost use mathlib.Core.Path.{_≡_};
 ghost use Rattle.machine.specs.State.{registers as eight};
 ghost use Rattle.machine.specs.View.{cpu-of};
 ghost use Rattle.engine.specs.View.{seen};
-ghost use Rattle.engine.specs.Calls.{word-answer};
+ghost use Rattle.machine.specs.Calls.{word-answer};
 use crate::processor::Processor;
 use machine::Refusal;
 use machine::Violation;

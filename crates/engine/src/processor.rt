@@ -5,6 +5,15 @@ use machine::State;
 #[derive(Drop)]
 pub struct Idle;
 
+/// The state of a processor that takes steps, runs and signals.
+#[derive(Drop)]
+pub struct Running;
+
+/// The states in which a processor is stepped.
+pub trait Live {}
+
+pub impl Live for Running as RunningLive {}
+
 /// A processor in the state `K` that owns its memory. It is neither copied nor dropped: it hands its memory back.
 pub struct Processor<K, M> {
     pub(crate) state: State,

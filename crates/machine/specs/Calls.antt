@@ -22,8 +22,12 @@ use Rattle.machine.specs.declared.level.LevelState.the-variants.{Disarmed, Arm
 use Rattle.machine.specs.declared.refusal.Refusal.{Refusal}
 use Rattle.machine.specs.declared.refusal.Refusal.the-variants.{NoAddress, NoLevel, LevelZero, RunTooLong}
 use Rattle.machine.specs.Levels.{level-at}
-use Rattle.machine.specs.State.{Machine, registers, told}
+use Rattle.machine.specs.State.{Machine, registers, set-last, set-pp, set-switch, told}
 use Rattle.machine.specs.Step.{Moment, on-cpu, step}
+
+-- a machine set going, with the protect switch on or off: PP is 1 and the last address 0
+abbrev pub gone : Bool → Machine → Machine
+gone on m = on-cpu (λ s. set-switch on (set-last 0 (set-pp true s))) m
 
 -- MOVES: what calls come to, whatever the machine is
 

@@ -48,7 +48,7 @@ set-work w s = record { work = w; guard = s .guard; pp = s .pp; mark = s .mark; 
 abbrev pub set-guard : Guard → Cpu → Cpu
 set-guard g s = record { work = s .work; guard = g; pp = s .pp; mark = s .mark; last = s .last; violation = s .violation; switch = s .switch }
 
--- a cpu with another PP, mark, last address or latest violation
+-- a cpu with another PP, mark, last address, latest violation or switch
 abbrev pub set-pp : Bool → Cpu → Cpu
 set-pp b s = record { work = s .work; guard = s .guard; pp = b; mark = s .mark; last = s .last; violation = s .violation; switch = s .switch }
 
@@ -60,6 +60,9 @@ set-last a s = record { work = s .work; guard = s .guard; pp = s .pp; mark = s .
 
 abbrev pub set-violation : Option Violation → Cpu → Cpu
 set-violation x s = record { work = s .work; guard = s .guard; pp = s .pp; mark = s .mark; last = s .last; violation = x; switch = s .switch }
+
+abbrev pub set-switch : Bool → Cpu → Cpu
+set-switch b s = record { work = s .work; guard = s .guard; pp = s .pp; mark = s .mark; last = s .last; violation = s .violation; switch = b }
 
 -- a guard with other inhibits
 abbrev pub set-inhibits : Bool → Bool → Guard → Guard

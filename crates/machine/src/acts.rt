@@ -1,9 +1,11 @@
 //! What steps make of the state of a processor.
 ghost use mathlib.Core.Path.{_≡_};
 ghost use Rattle.machine.specs.State.{set-work};
-ghost use Rattle.machine.specs.Step.{due, enter-cpu, fetch-cpu, leave-cpu, read-function, stalls, status, violate-cpu, violation, write-function};
+ghost use Rattle.machine.specs.Step.{class, due, enter-cpu, exits, fetch-cpu, fetch-pp, judge, leave-cpu, read-function, stalls, status, violate-cpu, violation, write-function};
 ghost use Rattle.machine.specs.View.{cpu-of};
+ghost use Rattle.machine.specs.Words.{protects};
 use crate::call::Outcome;
+use crate::instruction::Instruction;
 use crate::instruction::ReadFunction;
 use crate::instruction::WriteFunction;
 use crate::level::Event;
@@ -11,6 +13,7 @@ use crate::level::Property;
 use crate::state::Mark;
 use crate::state::State;
 use crate::state::Violation;
+use crate::state::ViolationKind;
 use crate::words::bit_of;
 
 impl State {
@@ -57,6 +60,54 @@ impl State {
         self.ii = bit_of(first, 12);
         self.ei = bit_of(first, 13);
         self.pp = !self.switch || bit_of(first, 11);
+    }
+
+    /// PP after a fetch at P, or `None` where the fetch is an entry violation.
+    pub fn fetch_pp(&self) -> Option<bool>
+        ensures { λ r. ⌜ r ≡ fetch-pp (cpu-of (now (self .entry)) .switch) (cpu-of (now (self .entry)) .pp) (protects (cpu-of (now (self .entry)) .guard .protection) (cpu-of (now (self .entry)) .work .p)) ⌝ }
+    {
+        if !self.switch {
+            return Some(self.pp);
+        }
+        let page = self.protection.protects(self.work.p);
+        if self.pp {
+            Some(page)
+        } else if page {
+            None
+        } else {
+            Some(false)
+        }
+    }
+
+    /// The violation of an instruction at P, of the background where `background`.
+    pub fn judge(&self, background: bool, instruction: Instruction) -> Option<Violation>
+        ensures { λ r. ⌜ r ≡ judge background (cpu-of (now (self .entry)) .guard .protection) (cpu-of (now (self .entry)) .work .p) (class instruction) ⌝ }
+    {
+        if !background {
+            return None;
+        }
+        let place = self.work.p;
+        match instruction {
+            Instruction::Sta(aim) | Instruction::Im(aim) => {
+                if self.protection.protects(aim) {
+                    Some(Violation { kind: ViolationKind::Store, place, aim })
+                } else {
+                    None
+                }
+            }
+            Instruction::Read(_, aim) | Instruction::Write(_, aim) => Some(Violation { kind: ViolationKind::Operation, place, aim }),
+            _ => None,
+        }
+    }
+
+    /// Whether an LDX exits, at the PP that its fetch leaves.
+    pub fn exits(&self, pp: bool) -> bool
+        ensures { λ r. ⌜ r ≡ exits (cpu-of (now (self .entry)) .mark) pp ⌝ }
+    {
+        match self.mark {
+            Mark::Exit => pp,
+            Mark::Unset | Mark::Wait => false,
+        }
     }
 
     /// A fetch that leaves this PP.

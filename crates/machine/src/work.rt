@@ -66,8 +66,8 @@ impl Work {
         }
     }
 
-    // Sets O and C by a sum.
-    fn flag(&mut self, sum: Sum)
+    /// Sets O and C by a sum.
+    pub fn flag(&mut self, sum: Sum)
         ensures { λ _. ⌜ now (self .exit) ≡ flagged sum (now (self .entry)) ⌝ }
     {
         self.o = sum.overflow;

@@ -2,7 +2,7 @@
 ghost use mathlib.Core.Path.{_≡_};
 ghost use mathlib.Core.Bool.{true};
 ghost use Rattle.machine.specs.Decode.{address as addressed, relative};
-ghost use Rattle.machine.specs.Step.{act, by-fetch, enter, index, instruction, step as stepped};
+ghost use Rattle.machine.specs.Step.{act, at-fetch, by-fetch, enter, index, instruction, step as stepped};
 ghost use Rattle.machine.specs.Words.{read as word-at};
 ghost use Rattle.std.specs.declared.option.Option.the-variants.{Some};
 ghost use Rattle.isolation.specs.Isolation.{Confined};
@@ -66,8 +66,16 @@ impl<K: Live, M: Memory> Processor<K, M> {
         } else {
             word % 256
         };
-        let direct = if bit_of(word, 5) { self.read(reference) } else { reference };
-        if bit_of(word, 6) { direct.wrapping_add(self.state.work.x1) } else { direct }
+        let direct = if bit_of(word, 5) {
+            self.read(reference)
+        } else {
+            reference
+        };
+        if bit_of(word, 6) {
+            direct.wrapping_add(self.state.work.x1)
+        } else {
+            direct
+        }
     }
 
     // The instruction at P.
@@ -112,7 +120,9 @@ impl<K: Live, M: Memory> Processor<K, M> {
             Instruction::B(address) => self.state.work.p = address,
             Instruction::Branch(condition, address) => self.state.work.branch(condition, address),
             Instruction::Copy(transfer) => self.state.work.copy(transfer),
-            Instruction::ReadRegister(number) => self.state.work.a = self.state.work.register(number),
+            Instruction::ReadRegister(number) => self.state.work.a = self.state
+                .work
+                .register(number),
             Instruction::WriteRegister(number) => {
                 let word = self.state.work.a;
                 let _ = self.state.work.put(number, word);
@@ -130,14 +140,36 @@ impl<K: Live, M: Memory> Processor<K, M> {
         ensures outside { λ _. ⌜ outer (now (self .exit) .memory) ≡ outer (now (self .entry) .memory) ⌝ }
     {
         let instruction = self.instruction();
-        let background = self.state.switch && !pp;
-        if let Some(found) = self.state.judge(background, instruction) {
+        if let Some(found) = self.state.judge(pp, instruction) {
             return self.state.violate(pp, found);
         }
         let exits = self.state.exits(pp);
         self.state.fetch(pp);
         self.act(exits, instruction);
         instruction.outcome()
+    }
+
+    // Fetches at P, unless that is an entry violation.
+    fn fetch(&mut self) -> Outcome
+        ensures answer { λ r. ⌜ r ≡ at-fetch (seen words (now (self .entry))) .outcome ⌝ }
+        ensures after { λ _. ⌜ seen words (now (self .exit)) ≡ at-fetch (seen words (now (self .entry))) .after ⌝ }
+        ensures outside { λ _. ⌜ outer (now (self .exit) .memory) ≡ outer (now (self .entry) .memory) ⌝ }
+    {
+        match self.state.fetch_pp() {
+            Some(pp) => self.instruct(pp),
+            None => {
+                let place = self.state.last;
+                let aim = self.state.work.p;
+                self.state.violate(
+                    false,
+                    Violation {
+                        kind: ViolationKind::Entry,
+                        place,
+                        aim,
+                    },
+                )
+            }
+        }
     }
 
     /// One step.
@@ -151,16 +183,9 @@ impl<K: Live, M: Memory> Processor<K, M> {
             self.enter(level);
             return Outcome::Entered(level);
         }
-        if matches!(self.state.mark, Mark::Wait) {
-            return Outcome::Idle;
-        }
-        match self.state.fetch_pp() {
-            Some(pp) => self.instruct(pp),
-            None => {
-                let place = self.state.last;
-                let aim = self.state.work.p;
-                self.state.violate(false, Violation { kind: ViolationKind::Entry, place, aim })
-            }
+        match self.state.mark {
+            Mark::Wait => Outcome::Idle,
+            Mark::Unset | Mark::Exit => self.fetch(),
         }
     }
 
@@ -184,5 +209,9 @@ fn target(place: u16, word: u16) -> u16
     ensures { λ r. ⌜ r ≡ relative place word ⌝ }
 {
     let forward = place.wrapping_add(word % 256);
-    if bit_of(word, 7) { forward.wrapping_sub(256) } else { forward }
+    if bit_of(word, 7) {
+        forward.wrapping_sub(256)
+    } else {
+        forward
+    }
 }

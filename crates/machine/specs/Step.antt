@@ -222,10 +222,15 @@ by-fetch None m = violated false (record { kind = Entry; place = m .cpu .last; a
 by-fetch (Some pp) m =
     by-judgement (judge (m .cpu .switch && not pp) (m .cpu .guard .protection) (m .cpu .work .p) (class (instruction m))) pp m
 
+-- the fetch at P
+abbrev pub at-fetch : Machine → Moment
+at-fetch m = by-fetch (fetch-pp (m .cpu .switch) (m .cpu .pp) (protects (m .cpu .guard .protection) (m .cpu .work .p))) m
+
+-- an idle step while the wait mark is set, and else a fetch
 abbrev pub by-mark : Mark → Machine → Moment
 by-mark Wait m = record { before = m; outcome = Idle; after = m }
-by-mark Unset m = by-fetch (fetch-pp (m .cpu .switch) (m .cpu .pp) (protects (m .cpu .guard .protection) (m .cpu .work .p))) m
-by-mark Exit m = by-fetch (fetch-pp (m .cpu .switch) (m .cpu .pp) (protects (m .cpu .guard .protection) (m .cpu .work .p))) m
+by-mark Unset m = at-fetch m
+by-mark Exit m = at-fetch m
 
 abbrev pub by-entry : Option ℕ → Machine → Moment
 by-entry (Some k) m = record { before = m; outcome = Entered k; after = enter k m }

@@ -1,5 +1,6 @@
 //! What steps make of the state of a processor.
 ghost use mathlib.Core.Path.{_≡_};
+ghost use mathlib.Core.Bool.{not, _&&_};
 ghost use Rattle.machine.specs.State.{set-work};
 ghost use Rattle.machine.specs.Step.{class, due, enter-cpu, exits, fetch-cpu, fetch-pp, judge, leave-cpu, read-function, stalls, status, violate-cpu, violation, write-function};
 ghost use Rattle.machine.specs.View.{cpu-of};
@@ -79,23 +80,31 @@ impl State {
         }
     }
 
-    /// The violation of an instruction at P, of the background where `background`.
-    pub fn judge(&self, background: bool, instruction: Instruction) -> Option<Violation>
-        ensures { λ r. ⌜ r ≡ judge background (cpu-of (now (self .entry)) .guard .protection) (cpu-of (now (self .entry)) .work .p) (class instruction) ⌝ }
+    /// The violation of an instruction at P, at the PP that its fetch left.
+    pub fn judge(&self, pp: bool, instruction: Instruction) -> Option<Violation>
+        ensures { λ r. ⌜ r ≡ judge (cpu-of (now (self .entry)) .switch && not pp) (cpu-of (now (self .entry)) .guard .protection) (cpu-of (now (self .entry)) .work .p) (class instruction) ⌝ }
     {
-        if !background {
+        if !self.switch || pp {
             return None;
         }
         let place = self.work.p;
         match instruction {
             Instruction::Sta(aim) | Instruction::Im(aim) => {
                 if self.protection.protects(aim) {
-                    Some(Violation { kind: ViolationKind::Store, place, aim })
+                    Some(Violation {
+                        kind: ViolationKind::Store,
+                        place,
+                        aim,
+                    })
                 } else {
                     None
                 }
             }
-            Instruction::Read(_, aim) | Instruction::Write(_, aim) => Some(Violation { kind: ViolationKind::Operation, place, aim }),
+            Instruction::Read(_, aim) | Instruction::Write(_, aim) => Some(Violation {
+                kind: ViolationKind::Operation,
+                place,
+                aim,
+            }),
             _ => None,
         }
     }

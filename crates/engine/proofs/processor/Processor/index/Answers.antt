@@ -15,6 +15,7 @@ returns-then-exits g c =
     let y = c .read-second .ensures in
     record {
       after = exited m a (c .read-first .result) (c .read-second .result) (c .read-second .last .self .state) (c .leave .last .self) _
-        (x .answer) (y .answer ∙ ap (λ l. read l (word (a + 1))) (x .same)) (ap cpu-of (y .state ∙ x .state)) (y .same ∙ x .same) (c .leave .ensures)
-        ∙ ap (λ b. index b a m) (sym (c .if-exits .taken));
-      outside = y .outside ∙ x .outside }
+          (x .answer) (y .answer ∙ ap (λ l. read l (word (a + 1))) (x .same)) (ap cpu-of (y .state ∙ x .state)) (y .same ∙ x .same) (c .leave .ensures)
+          ∙ ap (λ b. index b a m) (sym (c .if-exits .taken));
+      outside = y .outside ∙ x .outside;
+    }

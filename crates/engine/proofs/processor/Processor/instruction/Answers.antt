@@ -13,7 +13,8 @@ returns g c =
     let ws = g .M·Memory .words (c .read-word .last .self .memory) in
     record {
       answer = decodes m w (c .address-address .result) _ _ (r .answer)
-        (a .answer ∙ ap (λ s. address (s .work .p) (s .work) ws w) (r .state) ∙ ap (λ l. address (m .cpu .work .p) (m .cpu .work) l w) (r .same)) (c .target .ensures) (c .decode .ensures);
+          (a .answer ∙ ap (λ s. address (s .work .p) (s .work) ws w) (r .state) ∙ ap (λ l. address (m .cpu .work .p) (m .cpu .work) l w) (r .same)) (c .target .ensures) (c .decode .ensures);
       state = a .state ∙ r .state;
       same = a .same ∙ r .same;
-      outside = a .outside ∙ r .outside }
+      outside = a .outside ∙ r .outside;
+    }

@@ -1,12 +1,16 @@
 //! What only an idle processor takes.
 ghost use mathlib.Core.Path.{_≡_};
+ghost use mathlib.Core.Bool.{true};
 ghost use lib.ListN.{length};
+ghost use Rattle.isolation.specs.Isolation.{Isolated};
+ghost use Rattle.machine.specs.Calls.{gone};
 ghost use Rattle.machine.specs.State.{initial, protect-answer, put-answer};
 ghost use Rattle.machine.specs.View.{cpu-of};
 ghost use Rattle.engine.specs.View.{seen};
 ghost use Rattle.engine.specs.Calls.{deposit-answer, deposited, put, protected};
 use crate::processor::Idle;
 use crate::processor::Processor;
+use crate::processor::Running;
 use machine::Refusal;
 use machine::State;
 use memory::Memory;
@@ -67,5 +71,27 @@ impl<M: Memory> Processor<Idle, M> {
         }
         self.memory.store(address, word);
         Ok(())
+    }
+
+    /// Sets the processor going, with the protect switch on or off.
+    pub fn go(self, protect: bool) -> Processor<Running, M>
+        ensures after { λ r. ⌜ seen words r ≡ gone protect (seen words self) ⌝ }
+        ensures memory { λ r. ⌜ r .memory ≡ self .memory ⌝ }
+        ensures isolated { λ r. ⌜ (protect ≡ true → Isolated (seen words r)) ⌝ }
+    {
+        let Processor {
+            mut state,
+            memory,
+            mode,
+        } = self;
+        drop(mode);
+        state.pp = true;
+        state.last = 0;
+        state.switch = protect;
+        Processor {
+            state,
+            memory,
+            mode: Running,
+        }
     }
 }

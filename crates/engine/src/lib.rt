@@ -3,6 +3,7 @@ mod idle;
 mod loading;
 mod looks;
 mod processor;
+mod running;
 mod steps;
 
 pub use processor::Idle;

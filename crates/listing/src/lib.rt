@@ -7,4 +7,5 @@ pub use lines::fault_line;
 pub use lines::loaded_line;
 pub use lines::map_line;
 pub use lines::record_line;
+pub use whole::LIMIT;
 pub use whole::list;

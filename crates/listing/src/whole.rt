@@ -19,8 +19,8 @@ use memory::CoreMemory;
 use std::alloc::AllocError;
 use std::alloc::Global;
 
-// The most bytes of an image that count.
-const LIMIT: usize = 65536;
+/// How many bytes of an image count at most.
+pub const LIMIT: usize = 65536;
 
 // The bytes that count.
 fn first(bytes: &[u8]) -> &[u8]

@@ -50,12 +50,14 @@ module _ (ms bs : List ℕ) (p : ℕ) (same : ms ≡ bs) (x : Result (Option Rec
     pub falls : length bs - after < length bs - p
     falls = omega (arith, behind, read bs p r here .within, size-pos r)
 
-    pub goes-on : (t u : List ℕ) → Listing bs p t → u ≡ (t ++ record-line r) ++ (10 ∷ []) → Listing bs after u
-    goes-on t u so-far e rs v =
-        let l = so-far rs v in
+    -- the text t has a line added to it, the record's, and then a line feed
+    pub goes-on : (t v u a b : List ℕ) → Listing bs p t → v ≡ t ++ a → a ≡ b → b ≡ record-line r → u ≡ v ++ (10 ∷ []) → Listing bs after u
+    goes-on t v u a b so-far added piece says ended rs accepted =
+        let l = so-far rs accepted in
         let o = onward 8192 bs p (l .rest) r (l .left) here in
         let w : record-lines rs ≡ t ++ (line (record-line r) ++ record-lines (o .0)) = l .whole ∙ ap (λ qs. t ++ record-lines qs) (o .1) in
-        let f : u ≡ t ++ line (record-line r) = e ∙ append-assoc t (record-line r) (10 ∷ []) in
+        let e : v ≡ t ++ record-line r = added ∙ ap (λ k. t ++ k) (piece ∙ says) in
+        let f : u ≡ t ++ line (record-line r) = ended ∙ ap (λ k. k ++ (10 ∷ [])) e ∙ append-assoc t (record-line r) (10 ∷ []) in
         record {
           rest = o .0;
           left = ap (from 8192 bs) behind ∙ o .2;

@@ -21,5 +21,9 @@ hex-push : (ws : List ℕ) (w : ℕ) → hex-words (ws ++ (w ∷ [])) ≡ hex-wo
 hex-push [] w = refl
 hex-push (v ∷ ws) w = ap (λ l. codes " " ++ (hex v ++ l)) (hex-push ws w)
 
-pub map-more : (ws : List ℕ) (i : ℕ) → i < length ws → map-line (take i ws) ++ (codes " " ++ hex (getD ws i 0)) ≡ map-line (take (i + 1) ws)
-map-more ws i h = sym (ap map-line (take-more ws i 0 h) ∙ ap (λ l. codes "map" ++ l) (hex-push (take i ws) (getD ws i 0)))
+-- the same for the map: a text t, to which a piece is added that is one more word
+pub map-more : (ws : List ℕ) (i : ℕ) (t u a w : List ℕ) → i < length ws → t ≡ map-line (take i ws) → u ≡ t ++ a → a ≡ w → w ≡ codes " " ++ hex (getD ws i 0)
+    → u ≡ map-line (take (i + 1) ws)
+map-more ws i t u a w h so-far added piece is =
+    let new : map-line (take i ws ++ (getD ws i 0 ∷ [])) ≡ map-line (take i ws) ++ (codes " " ++ hex (getD ws i 0)) = ap (λ l. codes "map" ++ l) (hex-push (take i ws) (getD ws i 0)) in
+    added ∙ (λ j. so-far j ++ (piece ∙ is) j) ∙ sym (ap map-line (take-more ws i 0 h) ∙ new)

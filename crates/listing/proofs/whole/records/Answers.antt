@@ -1,5 +1,4 @@
 use mathlib.Core.Path.{ap, _∙_}
-use mathlib.Core.List.{[], _∷_, _++_}
 use lib.Utf8.{encode}
 use Rattle.std.specs.Of.String.{string-bytes}
 use Rattle.listing.proofs.Records.{begin, ends, falls, goes-on}
@@ -16,10 +15,13 @@ unfolding encode
 loop-record-again c =
     let i = c .loop-record .inv in
     let n = c .next .ensures in
-    let s = c .in-Continue-push-str .ensures tt .bytes ∙ ap (λ l. string-bytes (c .loop-record .text) ++ l) (c .as-str .ensures .value ∙ c .in-Continue-line .ensures tt) in
-    let e = c .in-Continue-push .ensures tt .bytes ∙ ap (λ l. l ++ (10 ∷ [])) s in (
+    let more = goes-on _ _ _ (i .0) _ (n .answer) _ _ (c .in-Some .ensures tt) (n .after) in
+    let t = string-bytes (c .loop-record .text) in
+    let v = string-bytes (c .push-str .last .self) in
+    let u = string-bytes (c .push .last .self) in
+    let b = string-bytes (c .in-Continue-line .line) in (
       ap (λ r. r .now) (n .same) ∙ i .0,
-      goes-on _ _ _ (i .0) _ (n .answer) _ _ (c .in-Some .ensures tt) (n .after) _ _ (i .1) e,
+      more t v u (c .as-str .result .now) b (i .1) (c .in-Continue-push-str .ensures tt .bytes) (c .as-str .ensures .value) (c .in-Continue-line .ensures tt) (c .in-Continue-push .ensures tt .bytes),
     )
 
 pub returns : need.returns

@@ -1,3 +1,4 @@
 pub mod Cases
 pub mod Moves
 pub mod Theorem
+pub mod Examples

@@ -1,9 +1,13 @@
 //! The law of isolation, about the meaning of the machine.
+ghost use Rattle.isolation.specs.Examples.{Agrees, Stalls, Violates};
 ghost use Rattle.isolation.specs.Isolation.{Isolation};
 
-/// The law holds of every machine that is set going with the protect switch on.
+/// The law holds of every machine that is set going with the protect switch on; closed examples meet its premises.
 pub fn isolation_stands() -> bool
-    ensures { λ _. ⌜ Isolation ⌝ }
+    ensures law { λ _. ⌜ Isolation ⌝ }
+    ensures violates { λ _. ⌜ Violates ⌝ }
+    ensures agrees { λ _. ⌜ Agrees ⌝ }
+    ensures stalls { λ _. ⌜ Stalls ⌝ }
 {
     true
 }

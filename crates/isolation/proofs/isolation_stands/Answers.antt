@@ -1,5 +1,6 @@
+use Rattle.isolation.proofs.Examples.{agrees, stalls, violates}
 use Rattle.isolation.proofs.Theorem.{isolation}
 use Rattle.isolation.proofs.isolation_stands.Needs as need
 
 pub returns : need.returns
-returns c = isolation
+returns c = record { law = isolation; violates = violates; agrees = agrees; stalls = stalls }

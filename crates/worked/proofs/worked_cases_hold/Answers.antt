@@ -1,0 +1,6 @@
+use Rattle.worked.proofs.Laws.{laws}
+use Rattle.worked.proofs.Worked.{cases}
+use Rattle.worked.proofs.worked_cases_hold.Needs as need
+
+pub returns : need.returns
+returns c = record { cases = cases; laws = laws }

@@ -1,0 +1,11 @@
+//! Worked cases and laws of the machine's rules.
+ghost use Rattle.worked.specs.Cases.{Cases};
+ghost use Rattle.worked.specs.Laws.{Laws};
+
+/// The worked cases and the laws hold of the rules.
+pub fn worked_cases_hold() -> bool
+    ensures cases { λ _. ⌜ Cases ⌝ }
+    ensures laws { λ _. ⌜ Laws ⌝ }
+{
+    true
+}

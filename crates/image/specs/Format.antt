@@ -50,7 +50,7 @@ encode-record (Protection n word) = 2 ∷ n ∷ two-bytes word
 encode-record (Register n word) = 3 ∷ n ∷ two-bytes word
 encode-record (Level n state) = 4 ∷ n ∷ state ∷ []
 
--- how many bytes a record of a kind has, its kind among them, or the end; 0 for a kind that there is not
+-- how many bytes a record of a kind has, with its kind byte; the end has 1, and a kind that there is not has 0
 abbrev pub kind-size : ℕ → ℕ
 kind-size k = cond (eqb k 1) 5 (cond (eqb k 2) 4 (cond (eqb k 3) 4 (cond (eqb k 4) 3 (cond (eqb k 255) 1 0))))
 

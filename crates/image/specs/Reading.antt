@@ -26,7 +26,7 @@ byte-at bs start p = whole bs start p 1 (getD bs p 0)
 abbrev pub number-at : List ℕ → ℕ → ℕ
 number-at bs p = getD bs p 0 * 256 + getD bs (p + 1) 0
 
--- the same, of the record that begins at start
+-- that number, of the record that begins at start
 abbrev pub word-at : List ℕ → ℕ → ℕ → Result ℕ Fault
 word-at bs start p = whole bs start p 2 (number-at bs p)
 
@@ -71,7 +71,7 @@ abbrev pub unless-end : Option Record → (Record → Result (List Record) Fault
 unless-end None k = Ok []
 unless-end (Some r) k = k r
 
--- the records from p on, if each can be stored; there are fewer than the first number, which no image passes
+-- the records from p on, if each can be stored beside `limit` words; the first number only bounds the recursion, and an image's length and 1 more is enough
 unfoldable pub records-from : ℕ → ℕ → List ℕ → ℕ → Result (List Record) Fault
 records-from zero limit bs p = Err (fault CutShort p)
 records-from (suc n) limit bs p =

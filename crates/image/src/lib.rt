@@ -13,13 +13,19 @@ pub use whole::check;
 /// What is wrong with an image.
 #[derive(Clone, Copy, PartialEq, Eq, Debug)]
 pub enum Cause {
+    /// Register 0 or above 7, or a protection register above 15.
     NoRegister,
+    /// An address at or above the memory's size.
     NoAddress,
+    /// A level above 15.
     NoLevel,
     LevelZero,
     UnknownKind,
+    /// A record with too few bytes, or no end.
     CutShort,
+    /// Bytes behind the end.
     AfterEnd,
+    /// A level state above 2.
     NoState,
 }
 
@@ -58,7 +64,8 @@ impl Cause {
     }
 }
 
-/// A refused image: the cause, and the byte place of the record at fault.
+/// A refused image: the cause, and its byte place, which is the kind byte of the record at fault, the first byte behind
+/// the end, or the length of an image that has no end.
 #[derive(Clone, Copy, PartialEq, Eq, Debug)]
 pub struct Fault {
     pub cause: Cause,

@@ -52,7 +52,7 @@ next-state Active Violate = Active
 abbrev pub taken : Level → Event → Level
 taken l e = record { state = next-state (l .state) e; enabled = l .enabled }
 
--- the record that the number n of an image sets: 0 disarmed, 1 armed, 2 armed and enabled
+-- the record that the number n of an image sets: 0 disarmed, 2 armed and enabled, and any other armed and disabled
 abbrev pub preset : ℕ → Level
 preset n = record { state = cond (eqb n 0) Disarmed Armed; enabled = eqb n 2 }
 

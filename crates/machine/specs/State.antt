@@ -25,7 +25,8 @@ pub record Guard : Type 0 where
   pub ei : Bool
   pub levels : List Level
 
--- a processor, all but its memory; `work` is what any instruction may change
+-- a processor, all but its memory: `work` is what any instruction may change, `pp` the protect indicator PP, `mark` the wait or exit mark,
+-- `last` the address of the latest instruction done or not carried, and `switch` the protect switch
 pub record Cpu : Type 0 where
   pub work : Work
   pub guard : Guard
@@ -110,7 +111,7 @@ protect-after n w ps = cond (ltb 15 n) ps (set ps n w)
 abbrev pub protection-word : ℕ → List ℕ → ℕ
 protection-word n ps = cond (ltb 15 n) 0 (getD ps n 0)
 
--- a cpu with the record of level k set, and those of the other fifteen as they were
+-- a cpu with the record of level k set, and the others as they were; above level 15 nothing is set
 abbrev pub with-level : ℕ → Level → Cpu → Cpu
 with-level k l s = set-guard (set-levels (set (s .guard .levels) k l) (s .guard)) s
 

@@ -18,7 +18,7 @@ use crate::level::Level;
 
 /// A record for each level: sixteen named fields, since an element of an array cannot be lent by contract.
 #[derive(Drop)]
-pub struct Bank<T> {
+pub(crate) struct Bank<T> {
     l0: T,
     l1: T,
     l2: T,
@@ -39,7 +39,7 @@ pub struct Bank<T> {
 
 impl<T: Copy> Bank<T> {
     /// One record for level 0, another for each of the others.
-    pub fn new(first: T, other: T) -> Bank<T>
+    pub(crate) fn new(first: T, other: T) -> Bank<T>
         ensures { λ r. ⌜ records r ≡ first ∷ replicate 15 other ⌝ }
     {
         Bank {
@@ -63,7 +63,7 @@ impl<T: Copy> Bank<T> {
     }
 
     /// The record of a level, or `None` above level 15.
-    pub fn at(&self, number: u8) -> Option<T>
+    pub(crate) fn at(&self, number: u8) -> Option<T>
         ensures { λ r. ⌜ r ≡ nth (records (now (self .entry))) number ⌝ }
     {
         match number {
@@ -90,7 +90,7 @@ impl<T: Copy> Bank<T> {
 
 impl<T> Bank<T> {
     /// The record of a level, lent, or `None` above level 15.
-    pub fn get(&mut self, number: u8) -> Option<&mut T>
+    pub(crate) fn get(&mut self, number: u8) -> Option<&mut T>
         ensures follows { λ r. sem 𝓤 H A (follows-if (the-row T·row) T·row (name (self .entry)) (nameOf r) (λ w. with-record (now (self .entry)) number w) (now (self .entry))) }
         ensures value { λ r. ⌜ mapped behind r ≡ nth (records (now (self .entry))) number ⌝ }
     {
@@ -118,7 +118,7 @@ impl<T> Bank<T> {
 
 impl Bank<Level> {
     /// Sets the record of a level, or does nothing above level 15; the other fifteen stay.
-    pub fn put(&mut self, number: u8, level: Level)
+    pub(crate) fn put(&mut self, number: u8, level: Level)
         ensures { λ _. ⌜ records (now (self .exit)) ≡ set (records (now (self .entry))) number level ⌝ }
     {
         if let Some(lent) = self.get(number) {
@@ -127,7 +127,7 @@ impl Bank<Level> {
     }
 
     /// Hands an event to a level, or does nothing above level 15; the other fifteen stay.
-    pub fn tell(&mut self, number: u8, event: Event)
+    pub(crate) fn tell(&mut self, number: u8, event: Event)
         ensures { λ _. ⌜ records (now (self .exit)) ≡ told number event (records (now (self .entry))) ⌝ }
     {
         if let Some(level) = self.get(number) {
@@ -136,7 +136,7 @@ impl Bank<Level> {
     }
 
     /// Hands a control of WD to a level, or does nothing above level 15; the other fifteen stay.
-    pub fn control(&mut self, number: u8, control: LevelControl)
+    pub(crate) fn control(&mut self, number: u8, control: LevelControl)
         ensures { λ _. ⌜ records (now (self .exit)) ≡ set (records (now (self .entry))) number (controlled control (level-at (records (now (self .entry))) number)) ⌝ }
     {
         if let Some(level) = self.get(number) {

@@ -3,8 +3,6 @@ ghost use mathlib.Core.Path.{_≡_};
 ghost use Rattle.machine.specs.Step.{carried, class};
 use crate::instruction::Instruction;
 use crate::refusal::Refusal;
-use crate::refusal::RefusalDebug;
-use crate::refusal::RefusalPartialEq;
 use crate::state::Violation;
 use crate::state::ViolationDebug;
 use crate::state::ViolationPartialEq;
@@ -39,7 +37,7 @@ pub struct Counts {
 }
 
 /// A call of a running processor.
-#[derive(Clone, Copy, PartialEq, Eq, Debug)]
+#[derive(Clone, Copy)]
 pub enum Call {
     Step,
     Run(u32),
@@ -51,7 +49,7 @@ pub enum Call {
 }
 
 /// The answer to a call.
-#[derive(Clone, Copy, PartialEq, Eq, Debug)]
+#[derive(Clone, Copy)]
 pub enum Answer {
     Stepped(Outcome),
     Ran(Counts),

@@ -2,11 +2,9 @@
 ghost use mathlib.Core.Path.{_≡_};
 ghost use Rattle.machine.specs.Decode.{decoded, has-address, transferred};
 use crate::level::Property;
-use crate::level::PropertyDebug;
-use crate::level::PropertyPartialEq;
 
 /// The condition of a branch, by its mnemonic.
-#[derive(Clone, Copy, PartialEq, Eq, Debug)]
+#[derive(Clone, Copy)]
 pub enum Condition {
     Bno,
     Bnc,
@@ -19,7 +17,7 @@ pub enum Condition {
 }
 
 /// How a copy joins its destination and its source.
-#[derive(Clone, Copy, PartialEq, Eq, Debug)]
+#[derive(Clone, Copy)]
 pub enum Join {
     And,
     Or,
@@ -28,7 +26,7 @@ pub enum Join {
 }
 
 /// A copy from register to register.
-#[derive(Clone, Copy, PartialEq, Eq, Debug)]
+#[derive(Clone, Copy)]
 pub struct Transfer {
     pub join: Join,
     pub carry: bool,
@@ -40,7 +38,7 @@ pub struct Transfer {
 }
 
 /// A privileged function of RD.
-#[derive(Clone, Copy, PartialEq, Eq, Debug)]
+#[derive(Clone, Copy)]
 pub enum ReadFunction {
     Protection(u8),
     Status,
@@ -49,7 +47,7 @@ pub enum ReadFunction {
 }
 
 /// What WD does to the levels whose bits are 1.
-#[derive(Clone, Copy, PartialEq, Eq, Debug)]
+#[derive(Clone, Copy)]
 pub enum LevelControl {
     Disarm,
     Arm,
@@ -59,7 +57,7 @@ pub enum LevelControl {
 }
 
 /// A privileged function of WD.
-#[derive(Clone, Copy, PartialEq, Eq, Debug)]
+#[derive(Clone, Copy)]
 pub enum WriteFunction {
     Protection(u8),
     Inhibits,
@@ -70,7 +68,7 @@ pub enum WriteFunction {
 }
 
 /// An instruction with its effective address, or the target of a branch.
-#[derive(Clone, Copy, PartialEq, Eq, Debug)]
+#[derive(Clone, Copy)]
 pub enum Instruction {
     Lda(u16),
     And(u16),

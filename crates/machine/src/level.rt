@@ -4,7 +4,7 @@ ghost use Rattle.machine.specs.Levels.{controlled, has, preset as numbered, si
 use crate::instruction::LevelControl;
 
 /// What a level is doing.
-#[derive(Clone, Copy, PartialEq, Eq, Debug)]
+#[derive(Clone, Copy)]
 pub enum LevelState {
     Disarmed,
     Armed,
@@ -13,7 +13,7 @@ pub enum LevelState {
 }
 
 /// What may happen to a level.
-#[derive(Clone, Copy, PartialEq, Eq, Debug)]
+#[derive(Clone, Copy)]
 pub enum Event {
     Disarm,
     Arm,
@@ -24,7 +24,7 @@ pub enum Event {
 }
 
 /// What RD shows of a level.
-#[derive(Clone, Copy, PartialEq, Eq, Debug)]
+#[derive(Clone, Copy)]
 pub enum Property {
     Enabled,
     Waiting,
@@ -32,7 +32,7 @@ pub enum Property {
 }
 
 /// What a level means for those of a higher number: it enters, it blocks them, or they are looked at next.
-#[derive(Clone, Copy, PartialEq, Eq, Debug)]
+#[derive(Clone, Copy)]
 pub enum Sight {
     Enters,
     Blocks,
@@ -40,7 +40,7 @@ pub enum Sight {
 }
 
 /// The record of a level: its state, and whether it is enabled.
-#[derive(Clone, Copy, PartialEq, Eq, Debug)]
+#[derive(Clone, Copy)]
 pub struct Level {
     pub state: LevelState,
     pub enabled: bool,
@@ -63,7 +63,7 @@ impl Level {
     }
 
     /// Takes an event: any pair of state and event that is not named changes nothing.
-    pub fn take(&mut self, event: Event)
+    pub(crate) fn take(&mut self, event: Event)
         ensures { λ _. ⌜ now (self .exit) ≡ taken (now (self .entry)) event ⌝ }
     {
         self.state = match (self.state, event) {
@@ -78,7 +78,7 @@ impl Level {
     }
 
     /// What WD does to a level: enabling is apart from the events.
-    pub fn control(&mut self, control: LevelControl)
+    pub(crate) fn control(&mut self, control: LevelControl)
         ensures { λ _. ⌜ now (self .exit) ≡ controlled control (now (self .entry)) ⌝ }
     {
         match control {
@@ -91,7 +91,7 @@ impl Level {
     }
 
     /// What a level means for those of a higher number.
-    pub fn sight(self, inhibited: bool) -> Sight
+    pub(crate) fn sight(self, inhibited: bool) -> Sight
         ensures { λ r. ⌜ r ≡ sighted inhibited self ⌝ }
     {
         match (inhibited, self.state, self.enabled) {
@@ -102,7 +102,7 @@ impl Level {
     }
 
     /// Whether a level has a property.
-    pub fn has(self, property: Property) -> bool
+    pub(crate) fn has(self, property: Property) -> bool
         ensures { λ r. ⌜ r ≡ has property self ⌝ }
     {
         match property {

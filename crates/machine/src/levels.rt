@@ -21,7 +21,7 @@ pub struct Levels {
 
 impl Levels {
     /// One record for level 0, another for each of the others.
-    pub fn new(first: Level, other: Level) -> Levels
+    pub(crate) fn new(first: Level, other: Level) -> Levels
         ensures { λ r. ⌜ records (r .bank) ≡ first ∷ replicate 15 other ⌝ }
     {
         Levels {
@@ -54,7 +54,7 @@ impl Levels {
     }
 
     /// The lowest level that may enter.
-    pub fn lowest(&mut self, ii: bool, ei: bool) -> Option<u8>
+    pub(crate) fn lowest(&mut self, ii: bool, ei: bool) -> Option<u8>
         ensures answer { λ r. ⌜ r ≡ entering 16 0 ii ei (records (now (self .entry) .bank)) ⌝ }
         ensures same { λ _. ⌜ records (now (self .exit) .bank) ≡ records (now (self .entry) .bank) ⌝ }
     {
@@ -66,7 +66,7 @@ impl Levels {
     }
 
     /// Hands the exit event to the lowest active level.
-    pub fn release(&mut self)
+    pub(crate) fn release(&mut self)
         ensures { λ _. ⌜ records (now (self .exit) .bank) ≡ released 16 0 (records (now (self .entry) .bank)) ⌝ }
     {
         self.calm = false;
@@ -74,7 +74,7 @@ impl Levels {
     }
 
     /// Hands a control of WD to each of levels 1 to 15 whose bit is 1.
-    pub fn control_each(&mut self, control: LevelControl, bits: u16)
+    pub(crate) fn control_each(&mut self, control: LevelControl, bits: u16)
         ensures { λ _. ⌜ records (now (self .exit) .bank) ≡ control-each 15 1 control bits (records (now (self .entry) .bank)) ⌝ }
     {
         self.calm = false;
@@ -82,7 +82,7 @@ impl Levels {
     }
 
     /// A word with bit k set for each level k that has a property.
-    pub fn bits(&self, property: Property) -> u16
+    pub(crate) fn bits(&self, property: Property) -> u16
         ensures { λ r. ⌜ r ≡ bits-of 16 0 property (records (now (self .entry) .bank)) ⌝ }
     {
         self.bank.bits(property)

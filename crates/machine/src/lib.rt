@@ -13,7 +13,6 @@ mod sum;
 mod words;
 mod work;
 
-pub use bank::Bank;
 pub use call::Answer;
 pub use call::Call;
 pub use call::Counts;

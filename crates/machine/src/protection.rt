@@ -14,7 +14,7 @@ pub struct Protection {
 
 impl Protection {
     /// No page is protected.
-    pub fn new() -> Protection
+    pub(crate) fn new() -> Protection
         ensures { λ r. ⌜ r .registers ≡ replicate 16 0 ⌝ }
     {
         Protection { registers: [0; 16] }
@@ -40,7 +40,7 @@ impl Protection {
     }
 
     /// Register 0 to 15; any other reads as 0.
-    pub fn word(&self, number: u8) -> u16
+    pub(crate) fn word(&self, number: u8) -> u16
         ensures { λ r. ⌜ r ≡ protection-word number (now (self .entry) .registers) ⌝ }
     {
         if number > 15 {
@@ -51,7 +51,7 @@ impl Protection {
     }
 
     /// Whether an address lies in a protected page.
-    pub fn protects(&self, address: u16) -> bool
+    pub(crate) fn protects(&self, address: u16) -> bool
         ensures { λ r. ⌜ r ≡ protects (now (self .entry) .registers) address ⌝ }
     {
         let page = address / 256;

@@ -24,7 +24,7 @@ fn is_inhibited(ii: bool, ei: bool, number: u8) -> bool
 
 impl Bank<Level> {
     /// The record of a level; above level 15 it is disarmed and disabled.
-    pub fn level(&self, number: u8) -> Level
+    pub(crate) fn level(&self, number: u8) -> Level
         ensures { λ r. ⌜ r ≡ level-at (records (now (self .entry))) number ⌝ }
     {
         match self.at(number) {
@@ -34,7 +34,7 @@ impl Bank<Level> {
     }
 
     /// The lowest level that may enter.
-    pub fn lowest(&self, ii: bool, ei: bool) -> Option<u8>
+    pub(crate) fn lowest(&self, ii: bool, ei: bool) -> Option<u8>
         ensures { λ r. ⌜ r ≡ entering 16 0 ii ei (records (now (self .entry))) ⌝ }
     {
         for k in 0..16u8 {
@@ -48,7 +48,7 @@ impl Bank<Level> {
     }
 
     /// Whether a level may be waiting; if not, none is.
-    pub fn waits(&self) -> bool
+    pub(crate) fn waits(&self) -> bool
         ensures { λ r. ⌜ (r ≡ false → Quiet (records (now (self .entry)))) ⌝ }
     {
         for k in 0..16u8 {
@@ -60,7 +60,7 @@ impl Bank<Level> {
     }
 
     /// Hands the exit event to the lowest active level.
-    pub fn release(&mut self)
+    pub(crate) fn release(&mut self)
         ensures { λ _. ⌜ records (now (self .exit)) ≡ released 16 0 (records (now (self .entry))) ⌝ }
     {
         for k in 0..16u8 {
@@ -72,7 +72,7 @@ impl Bank<Level> {
     }
 
     /// Hands a control of WD to each of levels 1 to 15 whose bit is 1, level by level.
-    pub fn control_each(&mut self, control: LevelControl, bits: u16)
+    pub(crate) fn control_each(&mut self, control: LevelControl, bits: u16)
         ensures { λ _. ⌜ records (now (self .exit)) ≡ control-each 15 1 control bits (records (now (self .entry))) ⌝ }
     {
         for k in 1..16u8 {
@@ -83,7 +83,7 @@ impl Bank<Level> {
     }
 
     /// A word with bit k set for each level k that has a property.
-    pub fn bits(&self, property: Property) -> u16
+    pub(crate) fn bits(&self, property: Property) -> u16
         ensures { λ r. ⌜ r ≡ bits-of 16 0 property (records (now (self .entry))) ⌝ }
     {
         let mut word: u16 = 0;

@@ -8,7 +8,7 @@ use crate::protection::Protection;
 use crate::work::Work;
 
 /// What stands between an instruction and the next fetch.
-#[derive(Clone, Copy, PartialEq, Eq, Debug)]
+#[derive(Clone, Copy)]
 pub enum Mark {
     Unset,
     Wait,

@@ -3,7 +3,7 @@ ghost use mathlib.Core.Path.{_≡_};
 ghost use Rattle.machine.specs.Arithmetic.{added, subtracted};
 
 /// A 16-bit result with its carry, or borrow, and its overflow.
-#[derive(Clone, Copy, PartialEq, Eq, Debug)]
+#[derive(Clone, Copy)]
 pub struct Sum {
     pub word: u16,
     pub carry: bool,

@@ -11,7 +11,7 @@ use crate::sum::Sum;
 use crate::sum::add;
 
 /// The registers but Z, which reads as 0 and keeps nothing, and the indicators O and C.
-#[derive(Clone, Copy, PartialEq, Eq, Debug)]
+#[derive(Clone, Copy)]
 pub struct Work {
     pub p: u16,
     pub l: u16,

@@ -24,7 +24,8 @@ impl Protection {
     pub fn words(&self) -> [u16; 16]
         ensures { λ r. ⌜ r ≡ now (self .entry) .registers ⌝ }
     {
-        self.registers
+        let words = self.registers;
+        words
     }
 
     /// Sets register 0 to 15.

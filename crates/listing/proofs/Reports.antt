@@ -23,13 +23,13 @@ block n ws e f =
     take-all (whole (length ws)) ws (omega arith) ∙ e
 
 module _ (raw bs ws : List ℕ) (s : Cpu) (cut : bs ≡ take 65536 raw) (zero : ws ≡ replicate 8192 0) (new : s ≡ initial) where
-  limited : length (front ws) ≡ 8192
+  pub limited : length (front ws) ≡ 8192
   limited = ap length (block 8192 ws zero refl) ∙ length-replicate {A = ℕ} 8192 0
 
   found : (v : Result (List Record) Fault) → verdict 8192 bs ≡ v → listing raw ≡ report v
   found v e = ap (λ l. report (verdict 8192 l)) (sym cut) ∙ ap report e
 
-  starts : record { cpu = s; words = front ws } ≡ blank
+  pub starts : record { cpu = s; words = front ws } ≡ blank
   unfolding blank
   starts = λ i. record { cpu = new i; words = block 8192 ws zero refl i }
 

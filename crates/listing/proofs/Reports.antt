@@ -17,19 +17,19 @@ use Rattle.listing.specs.Listing.{blank, line, listing, map-after, record-line
 use Rattle.listing.specs.Text.{fault-line, loaded-line, map-line}
 
 -- one block of words is a memory of its own
-block : (n : ℕ) (ws : List ℕ) → ws ≡ replicate n 0 → n ≡ 8192 → front ws ≡ replicate n 0
+pub block : (n : ℕ) (ws : List ℕ) → ws ≡ replicate n 0 → n ≡ 8192 → front ws ≡ replicate n 0
 block n ws e f =
     let l : length ws ≡ n = ap length e ∙ length-replicate {A = ℕ} n 0 in
     take-all (whole (length ws)) ws (omega arith) ∙ e
 
 module _ (raw bs ws : List ℕ) (s : Cpu) (cut : bs ≡ take 65536 raw) (zero : ws ≡ replicate 8192 0) (new : s ≡ initial) where
-  pub limited : length (front ws) ≡ 8192
+  limited : length (front ws) ≡ 8192
   limited = ap length (block 8192 ws zero refl) ∙ length-replicate {A = ℕ} 8192 0
 
   found : (v : Result (List Record) Fault) → verdict 8192 bs ≡ v → listing raw ≡ report v
   found v e = ap (λ l. report (verdict 8192 l)) (sym cut) ∙ ap report e
 
-  pub starts : record { cpu = s; words = front ws } ≡ blank
+  starts : record { cpu = s; words = front ws } ≡ blank
   unfolding blank
   starts = λ i. record { cpu = new i; words = block 8192 ws zero refl i }
 

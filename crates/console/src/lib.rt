@@ -7,6 +7,7 @@ pub use lines::counts_line;
 pub use lines::signal_line;
 pub use lines::step_line;
 pub use lines::violation_line;
+pub use listing::LIMIT;
 pub use runs::run_line;
 pub use traces::Signal;
 pub use traces::trace;

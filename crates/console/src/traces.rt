@@ -1,9 +1,9 @@
 //! A trace of an image.
 ghost use mathlib.Core.Path.{_≡_};
-ghost use mathlib.Core.List.{_++_};
+ghost use mathlib.Core.List.{[], _++_};
 ghost use Rattle.std.specs.Of.String.{string-bytes};
 ghost use Rattle.std.specs.Vec.{made};
-ghost use Rattle.machine.specs.Calls.{Room, tallied};
+ghost use Rattle.machine.specs.Calls.{Room, no-counts, tallied};
 ghost use Rattle.engine.specs.View.{seen};
 ghost use Rattle.listing.specs.Listing.{line as ended-line};
 ghost use Rattle.console.specs.Traces.{at, signal-if, signals-at, step-at, trace-of, trace-text};
@@ -41,6 +41,24 @@ struct Page {
 }
 
 impl Page {
+    // An empty page.
+    fn new(heap: Global) -> Page
+        ensures text { λ r. ⌜ string-bytes (r .text) ≡ [] ⌝ }
+        ensures counts { λ r. ⌜ r .counts ≡ no-counts ⌝ }
+    {
+        Page {
+            text: String::new(heap),
+            counts: Counts {
+                done: 0,
+                not_carried: 0,
+                violations: 0,
+                stalls: 0,
+                entries: 0,
+                idles: 0,
+            },
+        }
+    }
+
     // Writes a line.
     fn write(&mut self, line: &str) -> Result<(), AllocError>
         ensures text { λ r. ⌜ made r (λ _. string-bytes (now (self .exit) .text) ≡ string-bytes (now (self .entry) .text) ++ ended-line (now (line .entry))) ⌝ }
@@ -132,17 +150,7 @@ fn steps_text<M: Memory>(
         let number = Refusal::RunTooLong.number();
         return format!(heap, "refused {number}\n");
     }
-    let mut page = Page {
-        text: String::new(heap),
-        counts: Counts {
-            done: 0,
-            not_carried: 0,
-            violations: 0,
-            stalls: 0,
-            entries: 0,
-            idles: 0,
-        },
-    };
+    let mut page = Page::new(heap);
     for number in 0..steps {
         make_signals(heap, processor, &mut page, signals, number)?;
         make_step(heap, processor, &mut page, number)?;

@@ -13,7 +13,7 @@ use Rattle.console.proofs.traces.steps_text.Needs as need
 pub loop-number-holds : need.loop-number-holds
 loop-number-holds g c =
     let m = seen (g .M·Memory .words) (c .args .processor .now) in
-    half-begin (c .args .steps) (c .args .signals .now) _ m (so-far (string-bytes (c .new .result)) [] no-counts no-counts m m (c .new .ensures .bytes) refl refl)
+    half-begin (c .args .steps) (c .args .signals .now) _ m (so-far (string-bytes (c .new-page .result .text)) [] (c .new-page .result .counts) no-counts m m (c .new-page .ensures .text) (c .new-page .ensures .counts) refl)
 
 pub make-step-requires : need.make-step-requires
 make-step-requires g c κs =

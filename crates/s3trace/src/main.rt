@@ -4,6 +4,12 @@
 //! In the background, 0880 loads A, 0881 adds 1 to it, 0882 stores it into protected 0200, 0883 copies it to T, 0884 has a
 //! code that is not carried, 0885 reads a protection register, and 0886 branches to protected 0602. Level 0 steps
 //! over the violation by its status words at 0600 and exits; level 5 exits at once by those at 0700.
+ghost use mathlib.Core.Path.{_≡_};
+ghost use mathlib.Core.Bool.{cond};
+ghost use Prim.Native.Nat.{_<_};
+ghost use lib.Chars.{codes};
+ghost use lib.ListN.{length};
+ghost use Rattle.std.specs.Options.{Cases};
 use console::Signal;
 use std::alloc::AllocError;
 use std::alloc::Global;
@@ -13,24 +19,35 @@ use std::io::Read;
 
 // What the arguments ask for.
 #[derive(Drop)]
-struct Asked {
+struct Arguments {
     steps: u32,
     protect: bool,
     signals: Vec<Signal>,
 }
 
 // A number of steps, if it stands there.
-fn steps_at(words: &[String], place: usize) -> Option<u32> {
+fn steps_at(words: &[String], place: usize) -> Option<u32>
+    ensures { λ r. ⌜ Cases r (Unit {0}) (λ _. place < length (now (words .entry))) ⌝ }
+{
     words.get(place)?.as_str().parse().ok()
 }
 
-// A state of the protect switch, if it stands there.
-fn switch_at(words: &[String], place: usize) -> Option<bool> {
-    match words.get(place)?.as_str() {
+// A state of the protect switch.
+fn switch(word: &str) -> Option<bool>
+    ensures { λ r. ⌜ Cases r (Unit {0}) (λ on. now (word .entry) ≡ cond on (codes "on") (codes "off")) ⌝ }
+{
+    match word {
         "on" => Some(true),
         "off" => Some(false),
         _ => None,
     }
+}
+
+// The same, if it stands there.
+fn switch_at(words: &[String], place: usize) -> Option<bool>
+    ensures { λ r. ⌜ Cases r (Unit {0}) (λ _. place < length (now (words .entry))) ⌝ }
+{
+    switch(words.get(place)?.as_str())
 }
 
 // A signal, as STEP:LEVEL.
@@ -42,7 +59,7 @@ fn signal(word: &str) -> Option<Signal> {
 }
 
 // What the words ask for, of which the first is the program's name; none where a word fits nothing.
-fn asked(heap: Global, words: &[String]) -> Result<Option<Asked>, AllocError> {
+fn parsed(heap: Global, words: &[String]) -> Result<Option<Arguments>, AllocError> {
     let mut place = 1;
     let mut steps = 100;
     if let Some(number) = steps_at(words, place) {
@@ -61,7 +78,7 @@ fn asked(heap: Global, words: &[String]) -> Result<Option<Asked>, AllocError> {
             None => return Ok(None),
         }
     }
-    Ok(Some(Asked {
+    Ok(Some(Arguments {
         steps,
         protect,
         signals,
@@ -71,7 +88,7 @@ fn asked(heap: Global, words: &[String]) -> Result<Option<Asked>, AllocError> {
 fn main(rt: LibcRuntime) -> io::Result<()> {
     let heap = rt.alloc();
     let words: Vec<String> = env::args(&rt)?.collect(heap)?;
-    let Some(asked) = asked(heap, words.as_slice())? else {
+    let Some(arguments) = parsed(heap, words.as_slice())? else {
         return rt.println("usage: s3trace [STEPS] [on|off] [STEP:LEVEL ..]");
     };
     let mut bytes = Vec::new(heap);
@@ -83,9 +100,9 @@ fn main(rt: LibcRuntime) -> io::Result<()> {
         console::trace(
             heap,
             bytes.as_slice(),
-            asked.steps,
-            asked.protect,
-            asked.signals.as_slice(),
+            arguments.steps,
+            arguments.protect,
+            arguments.signals.as_slice(),
         )?,
     )
 }

@@ -4,7 +4,7 @@ ghost use Prim.Native.Nat.{_≤_};
 ghost use Rattle.std.specs.Of.String.{string-bytes};
 ghost use Rattle.std.specs.Vec.{made};
 ghost use Rattle.image.specs.Reading.{verdict};
-ghost use Rattle.console.specs.Runs.{ran, run-line};
+ghost use Rattle.console.specs.Runs.{ran, run-line, run-report};
 use crate::lines::counts_line;
 use engine::Processor;
 use engine::RunningLive;
@@ -40,11 +40,11 @@ fn run(bytes: &[u8], steps: u32) -> Result<Counts, Fault>
     }
 }
 
-/// The six counts of a run of 100 steps of an image, or for a refused image the number of the refusal; with a line feed.
-pub fn run_line(heap: Global, bytes: &[u8]) -> Result<String, AllocError>
-    ensures { λ r. ⌜ made r (λ s. string-bytes s ≡ run-line (now (bytes .entry))) ⌝ }
+// The counts, or the number of the refusal; with a line feed.
+fn report(heap: Global, answer: Result<Counts, Fault>) -> Result<String, AllocError>
+    ensures { λ r. ⌜ made r (λ s. string-bytes s ≡ run-report answer) ⌝ }
 {
-    match run(first(bytes), STEPS) {
+    match answer {
         Ok(counts) => {
             let counts = counts_line(heap, counts)?;
             format!(heap, "{counts}\n")
@@ -54,4 +54,11 @@ pub fn run_line(heap: Global, bytes: &[u8]) -> Result<String, AllocError>
             format!(heap, "{number}\n")
         }
     }
+}
+
+/// The six counts of a run of 100 steps of an image, or for a refused image the number of the refusal; with a line feed.
+pub fn run_line(heap: Global, bytes: &[u8]) -> Result<String, AllocError>
+    ensures { λ r. ⌜ made r (λ s. string-bytes s ≡ run-line (now (bytes .entry))) ⌝ }
+{
+    report(heap, run(first(bytes), STEPS))
 }

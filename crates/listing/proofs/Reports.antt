@@ -17,7 +17,7 @@ use Rattle.listing.specs.Listing.{blank, line, listing, map-after, record-line
 use Rattle.listing.specs.Text.{fault-line, loaded-line, map-line}
 
 -- one block of words is a memory of its own
-block : (n : ℕ) (ws : List ℕ) → ws ≡ replicate n 0 → n ≡ 8192 → front ws ≡ replicate n 0
+pub block : (n : ℕ) (ws : List ℕ) → ws ≡ replicate n 0 → n ≡ 8192 → front ws ≡ replicate n 0
 block n ws e f =
     let l : length ws ≡ n = ap length e ∙ length-replicate {A = ℕ} n 0 in
     take-all (whole (length ws)) ws (omega arith) ∙ e

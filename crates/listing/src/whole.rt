@@ -22,8 +22,8 @@ use std::alloc::Global;
 /// How many bytes of an image count at most.
 pub const LIMIT: usize = 65536;
 
-// The bytes that count.
-fn first(bytes: &[u8]) -> &[u8]
+/// The bytes that count.
+pub fn first(bytes: &[u8]) -> &[u8]
     ensures { λ r. ⌜ now r ≡ take 65536 (now (bytes .entry)) ⌝ }
 {
     if bytes.len() > LIMIT {

@@ -1,0 +1,3 @@
+pub mod Loads
+pub mod Counting
+pub mod Tracing

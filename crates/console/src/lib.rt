@@ -1,4 +1,6 @@
 //! The text of a processor at work: the counts of a run, and the lines of a trace.
+#![tactic(auto)]
+
 mod lines;
 mod runs;
 mod traces;

@@ -1,4 +1,6 @@
 //! The processor over any memory: deposits, images, looks, steps, runs and signals.
+#![tactic(auto)]
+
 mod idle;
 mod loading;
 mod looks;

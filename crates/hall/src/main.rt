@@ -1,4 +1,5 @@
 //! The story of a hall whose keys a print program reaches, with the protect switch on and with it off.
+#![tactic(auto)]
 mod hall;
 mod image_bytes;
 mod tell;

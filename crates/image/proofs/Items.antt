@@ -1,6 +1,6 @@
 -- One record, or the end, at a place of an image.
-use Rattle.std.proofs.Common.{◌≡◌, ℕ, zero, suc, ◌+◌, ◌-◌, ◌*◌, ◌/◌, ◌%◌, ◌<◌, ◌≤◌, Bool, true, false, cond, eqb, ltb, leb, ◌⊎◌, List, [], ◌∷◌, ◌++◌, length, get_or, take, drop, Some, None, Ok, Err, Option, Result, sym, refl, ap, ◌∙◌, inl, inr, add-one, arith}
-use Rattle.std.proofs.lemmas.List.{at_drop_more, at_drop_all, get_or-append-add, length-append, length-drop, get_or-drop}
+use Rattle.std.proofs.Common.{◌≡◌, ℕ, zero, suc, ◌+◌, ◌/◌, ◌%◌, ◌<◌, ◌≤◌, cond, eqb, ltb, ◌⊎◌, List, [], ◌∷◌, ◌++◌, length, get_or, drop, Some, None, Ok, Err, Option, Result, sym, refl, ap, ◌∙◌, inl, inr, arith}
+use Rattle.std.proofs.lemmas.List.{at_drop_more, at_drop_all, get_or-append-add, length-append, length-drop}
 use Rattle.std.proofs.lemmas.Bool.{cond-true, lt-ltb}
 use Rattle.std.proofs.lemmas.Bool.Decides.{nat_tests}
 use Rattle.image.specs.declared.Cause.TheVariants.{UnknownKind, CutShort, AfterEnd}
@@ -8,7 +8,7 @@ use Rattle.image.specs.declared.Fault.{Fault}
 use Rattle.image.specs.declared.Record.{Record}
 use Rattle.image.specs.declared.Record.TheVariants.{Word, Protection, Register, Level}
 use Rattle.image.specs.Format.{encode_record, fault, kind_size, storing, two_bytes}
-use Rattle.image.specs.Law.{Flaw, Storable, no_end, cut_short, unknown_kind, after_end, not_storable}
+use Rattle.image.specs.Law.{Flaw, Storable, no_end, cut_short, unknown_kind, after_end}
 use Rattle.image.specs.Reading.{end_at, item_at, number_at, of_kind, record_at, size, whole}
 
 -- each number is a byte

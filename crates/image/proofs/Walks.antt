@@ -1,6 +1,6 @@
 -- How the check of an image goes on from record to record.
 use Rattle.std.proofs.Common.{◌≡◌, ℕ, zero, suc, ◌+◌, ◌-◌, ◌<◌, ◌≤◌, List, [], ◌∷◌, ◌++◌, length, drop, Some, None, Ok, Err, Option, Result, sym, refl, ap, ◌∙◌, append_assoc, arith}
-use Rattle.std.proofs.lemmas.List.{length-append, drop_at, append-nil}
+use Rattle.std.proofs.lemmas.List.{length-append, append-nil}
 use Rattle.image.specs.declared.Cause.TheVariants.{CutShort}
 use Rattle.image.specs.declared.Fault.{Fault}
 use Rattle.image.specs.declared.Record.{Record}

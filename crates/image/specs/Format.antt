@@ -1,5 +1,5 @@
 -- The format of images: the numbers of its faults, the bytes of its records, and which records can be stored.
-use Rattle.std.specs.Prelude.{ℕ, ◌/◌, ◌%◌, Bool, true, false, cond, ◌||◌, List, [], ◌∷◌, ◌++◌, Ok, Err, Result, ◌==◌, nat_le, nat_lt}
+use Rattle.std.specs.Prelude.{ℕ, ◌/◌, ◌%◌, Bool, cond, ◌||◌, List, [], ◌∷◌, ◌++◌, Ok, Err, Result, ◌==◌, nat_le, nat_lt}
 use Rattle.image.specs.declared.Cause.{Cause}
 use Rattle.image.specs.declared.Cause.TheVariants.{NoRegister, NoAddress, NoLevel, LevelZero, UnknownKind, CutShort, AfterEnd, NoState}
 use Rattle.image.specs.declared.Fault.{Fault}

@@ -1,4 +1,6 @@
 //! Images of a Sigma 3's memory and registers: the records, the reader over the bytes, and the check.
+#![tactic(auto)]
+
 ghost use Rattle.std.specs.Prelude.{◌≡◌, ℕ, ◌+◌, ◌<◌, ◌≤◌, length};
 ghost use Rattle.image.specs.Format.{number as numbered, layer as layered, storing};
 

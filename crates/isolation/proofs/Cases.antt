@@ -1,8 +1,8 @@
 -- One step by cases: what each leaves. Nothing here looks at an instruction code.
-use Rattle.std.proofs.Common.{◌≡◌, ℕ, zero, suc, ◌+◌, Bool, true, false, cond, not, ◌&&◌, ◌⊎◌, List, [], ◌∷◌, get_or, set, Some, None, Option, sym, refl, ap, ◌∙◌, subst, inl, inr, arith, get_or-set_other}
+use Rattle.std.proofs.Common.{◌≡◌, ℕ, Bool, true, false, cond, ◌&&◌, ◌⊎◌, List, [], ◌∷◌, get_or, set, Some, None, Option, sym, refl, ap, ◌∙◌, subst, inl, inr, arith, get_or-set_other}
 use Rattle.std.proofs.lemmas.Bool.{both_ways, false≢true}
 use Rattle.machine.specs.declared.call.Outcome.{Outcome}
-use Rattle.machine.specs.declared.call.Outcome.TheVariants.{Entered, Idle, Violated, Stalled, NotCarried as Uncarried, Done}
+use Rattle.machine.specs.declared.call.Outcome.TheVariants.{Entered, Idle, NotCarried as Uncarried, Done}
 use Rattle.machine.specs.declared.instruction.Instruction.{Instruction}
 use Rattle.machine.specs.declared.instruction.Instruction.TheVariants.{Lda, And, Add, Sub, Ldx, Sta, Im, B, Branch, Copy, ReadRegister, WriteRegister, Read, Write, NotCarried}
 use Rattle.levels.specs.declared.level.Level.{Level}
@@ -14,9 +14,9 @@ use Rattle.machine.specs.declared.state.Mark.TheVariants.{Unset, Wait, Exit}
 use Rattle.machine.specs.declared.state.Violation.{Violation}
 use Rattle.machine.specs.declared.work.Work.{Work}
 use Rattle.levels.specs.Levels.{is_active, level_at, next_state, told}
-use Rattle.machine.specs.State.{Cpu, Guard, Machine}
-use Rattle.machine.specs.Step.{Class, Moment, act, by_entry, by_fetch, by_judgement, by_mark, carried, class, due, enter, exits, fetch_pp, fetched, instruction, judge, none_such, on_work, plain, privileged, step, store, stores, violate, violated, violation}
-use Rattle.machine.specs.Words.{protects, read}
+use Rattle.machine.specs.State.{Machine}
+use Rattle.machine.specs.Step.{Moment, act, by_entry, by_fetch, by_judgement, by_mark, carried, class, due, enter, exits, fetch_pp, fetched, instruction, judge, on_work, step, store, stores, violate, violation}
+use Rattle.machine.specs.Words.{protects}
 use Rattle.isolation.specs.Steps.{Enters, Executes, Faults, PProtected, SameWords, zero_waiting}
 
 -- the mark is not the exit mark

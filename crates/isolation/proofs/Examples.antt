@@ -1,10 +1,9 @@
 -- The closed examples, worked out.
-use Rattle.std.proofs.Common.{◌≡◌, ℕ, zero, suc, ◌+◌, ◌-◌, ◌/◌, ◌%◌, ◌^◌, ◌<◌, ◌≤◌, Bool, true, false, not, ◌&&◌, ◌||◌, eqb, ◌⊎◌, List, [], ◌∷◌, ◌++◌, length, get_or, set, replicate, sym, refl, ap, ◌∙◌, inl, inr, arith}
+use Rattle.std.proofs.Common.{◌≡◌, ℕ, zero, suc, ◌-◌, ◌/◌, ◌%◌, ◌^◌, ◌<◌, Bool, true, false, not, ◌&&◌, ◌||◌, eqb, List, ◌∷◌, ◌++◌, length, set, replicate, sym, refl, ap, ◌∙◌, inl, inr, arith}
 use native.Mathlib.Nat.{zero-div}
 use Rattle.std.proofs.lemmas.List.{get_or_append_left, get_or_past, get_or-set_other}
 use Rattle.std.proofs.lemmas.Bool.{and_parts, cases_eq, cases_lt, eqb-true, false≢true}
 use Rattle.levels.specs.Levels.{lowest}
-use Rattle.machine.specs.State.{Machine}
 use Rattle.machine.specs.Step.{instruction, step}
 use Rattle.machine.specs.Words.{page_protected, protects, read}
 use Rattle.isolation.specs.Examples.{Agrees, Stalls, Violates, active, four, going, one, other_program, program, three, two}

@@ -3,7 +3,7 @@ use Rattle.std.proofs.Common.{◌≡◌, List, [], ◌∷◌, ◌++◌, sym, ref
 use Rattle.machine.specs.declared.call.Call.{Call}
 use Rattle.machine.specs.Calls.{Move, after_call, after_calls, end, moves_of, poke, poked, tick, trail}
 use Rattle.machine.specs.State.{Machine}
-use Rattle.machine.specs.Step.{Moment, step}
+use Rattle.machine.specs.Step.{step}
 use Rattle.isolation.specs.Steps.{steps_of}
 
 -- the moves of a list of calls

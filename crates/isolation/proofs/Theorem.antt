@@ -1,5 +1,5 @@
 -- The law of isolation, over whole lists of calls.
-use Rattle.std.proofs.Common.{◌≡◌, ℕ, zero, suc, ◌+◌, ◌/◌, ◌%◌, ◌<◌, ◌≤◌, Bool, true, false, ◌⊎◌, List, [], ◌∷◌, ◌++◌, Some, None, Option, sym, refl, ap, ◌∙◌, subst, inl, inr, ⊎_elim, arith}
+use Rattle.std.proofs.Common.{◌≡◌, ℕ, zero, suc, ◌+◌, ◌/◌, ◌<◌, Bool, true, false, ◌⊎◌, List, [], ◌∷◌, ◌++◌, Some, None, Option, sym, refl, ap, ◌∙◌, subst, inl, inr, ⊎_elim, arith}
 use Rattle.std.proofs.lemmas.Bool.{both_ways}
 use Rattle.machine.specs.declared.call.Call.{Call}
 use Rattle.machine.specs.declared.call.Outcome.{Outcome}
@@ -15,12 +15,12 @@ use Rattle.levels.specs.declared.level.Sight.TheVariants.{Enters as EntersNow, B
 use Rattle.machine.specs.declared.state.Mark.{Mark}
 use Rattle.machine.specs.declared.state.Mark.TheVariants.{Unset, Wait, Exit}
 use Rattle.machine.specs.Calls.{Move, after_calls, end, poke, poked, tick, trail}
-use Rattle.levels.specs.Levels.{choose, inhibited, level_at, lowest, sighted}
+use Rattle.levels.specs.Levels.{choose, lowest}
 use Rattle.machine.specs.State.{Cpu, Guard, Machine, told}
 use Rattle.machine.specs.Step.{Class, Moment, act, by_entry, carried, class, due, enter, exits, fetched, index, instruction, none_such, plain, privileged, step, stores, write_function}
 use Rattle.machine.specs.Words.{page_protected, protects, read, word}
-use Rattle.isolation.specs.Steps.{Background, Barred, Clean, Each, Enters, EntersFirst, Executes, Faults, NoEntry, PProtected, SameWords, steps_of}
-use Rattle.isolation.specs.Isolation.{Alike, ByCell, Confined, EntryBetween, Follows, InBackground, Indistinct, Isolated, Isolation, SetGoing, Unchanged, WordsAgree}
+use Rattle.isolation.specs.Steps.{Background, Barred, Each, Enters, Executes, Faults, NoEntry, PProtected, SameWords}
+use Rattle.isolation.specs.Isolation.{Alike, ByCell, Confined, EntryBetween, Follows, InBackground, Indistinct, Isolation, Unchanged, WordsAgree}
 use Rattle.isolation.proofs.Cases.{NoExit, Tame, from, step_cases}
 use Rattle.isolation.proofs.Moves.{end_calls, moves, trail_calls}
 

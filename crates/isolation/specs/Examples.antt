@@ -1,5 +1,5 @@
 -- Closed examples that meet every premise of the law, so that it is not empty.
-use Rattle.std.specs.Prelude.{◌≡◌, ℕ, true, false, List, [], ◌∷◌, ◌++◌, map, set, replicate, None, slice_set}
+use Rattle.std.specs.Prelude.{◌≡◌, ℕ, true, false, List, [], ◌∷◌, ◌++◌, map, replicate, None, slice_set}
 use Rattle.machine.specs.declared.call.Answer.TheVariants.{Word as OneWord, Refused}
 use Rattle.machine.specs.declared.call.Call.{Call}
 use Rattle.machine.specs.declared.call.Call.TheVariants.{Step, Run, Signal, Registers, Word}

@@ -1,4 +1,6 @@
 //! The law of isolation, about the meaning of the machine.
+#![tactic(auto)]
+
 ghost use Rattle.std.specs.Prelude.{◌≡◌, true};
 ghost use Rattle.isolation.specs.Examples.{Agrees, Stalls, Violates};
 ghost use Rattle.isolation.specs.Isolation.{Isolation};

@@ -1,5 +1,5 @@
 -- Going through the levels one by one.
-use Rattle.std.proofs.Common.{◌≡◌, ℕ, zero, suc, ◌+◌, ◌-◌, ◌<◌, ◌≤◌, Bool, true, false, cond, ◌⊎◌, List, length, get_or, set, Some, None, Option, sym, refl, ap, ◌∙◌, inl, inr, arith}
+use Rattle.std.proofs.Common.{◌≡◌, ℕ, zero, suc, ◌+◌, ◌-◌, ◌<◌, Bool, true, false, cond, List, length, set, None, Option, sym, refl, ap, ◌∙◌, inl, inr, arith}
 use Rattle.std.proofs.lemmas.List.{get_or_past}
 use Rattle.std.proofs.lemmas.Bool.{cases_lt}
 use Rattle.levels.specs.declared.level.LevelControl.{LevelControl}
@@ -8,7 +8,6 @@ use Rattle.levels.specs.declared.level.Level.{Level}
 use Rattle.levels.specs.declared.level.LevelState.{LevelState}
 use Rattle.levels.specs.declared.level.LevelState.TheVariants.{Disarmed, Armed, Waiting, Active}
 use Rattle.levels.specs.declared.level.Sight.{Sight}
-use Rattle.levels.specs.declared.level.Sight.TheVariants.{Enters, Blocks, Passes}
 use Rattle.levels.specs.Levels.{Quiet, choose, control_each, controlled, inhibited, is_active, is_waiting, level_at, lowest, preset, released, sighted, sighted_by, told}
 use Rattle.levels.specs.Bits.{bit}
 

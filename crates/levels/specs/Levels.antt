@@ -1,5 +1,5 @@
 -- Levels: what events and controls make of one, which one may enter, and which one exits.
-use Rattle.std.specs.Prelude.{◌≡◌, ℕ, zero, suc, ◌+◌, ◌-◌, ◌*◌, ◌^◌, Bool, true, false, cond, List, set, Some, None, Option, ◌==◌, nat_lt, slice_index_or, slice_set}
+use Rattle.std.specs.Prelude.{◌≡◌, ℕ, zero, suc, ◌+◌, ◌-◌, ◌*◌, ◌^◌, Bool, true, false, cond, List, Some, None, Option, ◌==◌, nat_lt, slice_index_or, slice_set}
 use Rattle.levels.specs.declared.level.LevelControl.{LevelControl}
 use Rattle.levels.specs.declared.level.LevelControl.TheVariants.{Disarm as DisarmControl, Arm as ArmControl, Disable, Enable, Trigger as TriggerControl}
 use Rattle.levels.specs.declared.level.Property.{Property}

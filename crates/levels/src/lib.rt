@@ -1,4 +1,6 @@
 //! The sixteen interrupt levels: what events make of one, which one may enter, and which one exits.
+#![tactic(auto)]
+
 mod bank;
 mod level;
 mod levels;

@@ -1,4 +1,5 @@
 //! Prints the listings of images that try each rule.
+#![tactic(auto)]
 use cases::CASES;
 use std::alloc::{AllocError, Global};
 use std::io;

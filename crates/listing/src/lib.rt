@@ -1,4 +1,6 @@
 //! The text of an image: a line for each record, for what was loaded, for the protection registers, or for a fault.
+#![tactic(auto)]
+
 mod hex;
 mod lines;
 mod whole;

@@ -1,5 +1,5 @@
 -- Sums and differences of words.
-use Rattle.std.specs.Prelude.{ℕ, ◌+◌, ◌-◌, ◌%◌, Bool, cond, not, ◌&&◌, ℤ, pos, negsuc, ◌+ℤ◌, ◌-ℤ◌, int_le, nat_le, nat_lt}
+use Rattle.std.specs.Prelude.{ℕ, ◌+◌, ◌-◌, Bool, cond, not, ◌&&◌, ℤ, pos, negsuc, ◌+ℤ◌, ◌-ℤ◌, int_le, nat_le, nat_lt}
 use Rattle.machine.specs.declared.sum.Sum.{Sum}
 use Rattle.levels.specs.Bits.{one}
 use Rattle.machine.specs.Words.{word}

@@ -1,5 +1,5 @@
 -- The calls of a running processor: what each answers, and the machine after it.
-use Rattle.std.specs.Prelude.{◌≡◌, ℕ, zero, suc, ◌+◌, ◌^◌, ◌<◌, Bool, true, false, cond, List, [], ◌∷◌, ◌++◌, length, replicate, Ok, Err, Result, ◌==◌, nat_lt, slice_index}
+use Rattle.std.specs.Prelude.{ℕ, ◌+◌, ◌^◌, ◌<◌, Bool, true, cond, List, [], ◌∷◌, length, replicate, Ok, Err, Result, ◌==◌, nat_lt, slice_index}
 use Rattle.machine.specs.declared.call.Answer.{Answer}
 use Rattle.machine.specs.declared.call.Answer.TheVariants.{Stepped, Ran, Signalled as Signalling, Registers as AllRegisters, Protection as AllProtection, Violation as Latest, Word as OneWord, Refused}
 use Rattle.machine.specs.declared.call.Call.{Call}

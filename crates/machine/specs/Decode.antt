@@ -1,5 +1,5 @@
 -- Instruction words: their fields, the effective address, and the instruction.
-use Rattle.std.specs.Prelude.{ℕ, ◌+◌, ◌-◌, ◌/◌, ◌%◌, Bool, true, false, cond, ◌&&◌, ◌||◌, List, ◌==◌, nat_le, nat_lt}
+use Rattle.std.specs.Prelude.{ℕ, ◌+◌, ◌-◌, ◌/◌, ◌%◌, Bool, cond, ◌&&◌, ◌||◌, List, ◌==◌, nat_le, nat_lt}
 use Rattle.machine.specs.declared.instruction.Condition.{Condition}
 use Rattle.machine.specs.declared.instruction.Condition.TheVariants.{Bno, Bnc, Baz, Bix, Bxno, Bxnc, Ben, Ban}
 use Rattle.machine.specs.declared.instruction.Join.{Join}

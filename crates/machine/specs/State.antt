@@ -1,5 +1,5 @@
 -- The state of a processor: its parts by who may change them, and the changes that calls from outside make.
-use Rattle.std.specs.Prelude.{ℕ, Bool, true, false, cond, ◌||◌, List, [], ◌∷◌, set, replicate, None, Ok, Err, Option, Result, ◌==◌, nat_lt, slice_index, slice_set}
+use Rattle.std.specs.Prelude.{ℕ, Bool, false, cond, ◌||◌, List, [], ◌∷◌, replicate, None, Ok, Err, Option, Result, ◌==◌, nat_lt, slice_index, slice_set}
 use Rattle.levels.specs.declared.level.Event.{Event}
 use Rattle.levels.specs.declared.level.Level.{Level}
 use Rattle.machine.specs.declared.refusal.Refusal.{Refusal}

@@ -1,5 +1,5 @@
 -- One step of the machine. The last definition is the step itself; each is made of those above it.
-use Rattle.std.specs.Prelude.{ℕ, ◌+◌, ◌*◌, Bool, true, false, cond, not, ◌&&◌, List, set, Some, None, Option, bit_and, slice_set}
+use Rattle.std.specs.Prelude.{ℕ, ◌+◌, ◌*◌, Bool, true, false, cond, not, ◌&&◌, List, Some, None, Option, bit_and, slice_set}
 use Rattle.machine.specs.declared.call.Outcome.{Outcome}
 use Rattle.machine.specs.declared.call.Outcome.TheVariants.{Entered, Idle, Violated, Stalled, NotCarried as Uncarried, Done}
 use Rattle.machine.specs.declared.instruction.ReadFunction.{ReadFunction}

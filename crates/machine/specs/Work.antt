@@ -1,5 +1,5 @@
 -- What instructions make of the registers, O and C. P is already the address of the next instruction.
-use Rattle.std.specs.Prelude.{ℕ, ◌+◌, ◌-◌, Bool, true, false, cond, not, ◌&&◌, ◌||◌, ◌==◌, bit_and, bit_or, bit_xor, nat_le, slice_index}
+use Rattle.std.specs.Prelude.{ℕ, ◌+◌, ◌-◌, Bool, cond, not, ◌&&◌, ◌||◌, ◌==◌, bit_and, bit_or, bit_xor, nat_le, slice_index}
 use Rattle.machine.specs.declared.instruction.Condition.{Condition}
 use Rattle.machine.specs.declared.instruction.Condition.TheVariants.{Bno, Bnc, Baz, Bix, Bxno, Bxnc, Ben, Ban}
 use Rattle.machine.specs.declared.instruction.Join.{Join}

@@ -1,4 +1,6 @@
 //! The state of a Sigma 3: its registers, indicators, protection registers and levels.
+#![tactic(auto)]
+
 mod acts;
 mod call;
 mod instruction;

@@ -1,7 +1,7 @@
 -- Writes into core and joined memory, and what they leave. Assumes nothing.
-use Rattle.std.proofs.Common.{◌≡◌, ℕ, zero, suc, ◌+◌, ◌-◌, ◌<◌, ◌≤◌, min, List, [], ◌∷◌, ◌++◌, length, take, drop, set, sym, refl, ap, ◌∙◌, arith, MutBor}
+use Rattle.std.proofs.Common.{◌≡◌, ℕ, zero, suc, ◌+◌, ◌-◌, ◌<◌, min, List, [], ◌∷◌, ◌++◌, length, take, drop, set, sym, refl, ap, ◌∙◌, arith, MutBor}
 use base.Fml.{GName}
-use Rattle.std.proofs.lemmas.List.{length-take, length-set, length-append, set_past, set-append_left, set-append_right, drop-set-lt, take-append-drop, take_at, drop_at}
+use Rattle.std.proofs.lemmas.List.{length-take, length-set, length-append, set-append_left, set-append_right, drop-set-lt, take-append-drop, take_at, drop_at}
 use Rattle.memory.specs.Outer.{Outer, row, pair, outer_row, outer_pair}
 use Rattle.memory.specs.Words.{whole, front, behind, joint}
 

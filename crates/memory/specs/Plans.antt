@@ -1,5 +1,5 @@
 -- What the portions of every plan keep to. Names no type of the crate, so that the plan's own file can import it. Assumes nothing.
-use Rattle.std.specs.Prelude.{◌≡◌, ℕ, ◌<◌, List, ◌≢◌, slice_index}
+use Rattle.std.specs.Prelude.{ℕ, ◌<◌, List, ◌≢◌, slice_index}
 
 -- each portion is below 32
 abbrev pub Within : List ℕ → Type 0

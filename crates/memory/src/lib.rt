@@ -1,4 +1,6 @@
 // Memory of 16-bit words: the interface, and core, adaptor and joined memory.
+#![tactic(auto)]
+
 ghost use Rattle.std.specs.Prelude.{◌≡◌, ℕ, List, length, slice_set};
 ghost use Rattle.memory.specs.Fetches.{fetched_at};
 ghost use Rattle.memory.specs.Outer.{Outer};

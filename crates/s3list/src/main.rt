@@ -1,4 +1,5 @@
 //! Prints the listing of the image on standard input.
+#![tactic(auto)]
 use std::io;
 use std::io::Read;
 

@@ -1,4 +1,5 @@
 //! Prints the counts of a run of the image on standard input, or the number of its refusal.
+#![tactic(auto)]
 use std::io;
 use std::io::Read;
 

@@ -1,4 +1,5 @@
 //! Prints runs and traces that try what one trace does not.
+#![tactic(auto)]
 use console::Signal;
 use std::io;
 

@@ -1,4 +1,5 @@
 //! Tries worked cases through the calls of a processor, and prints what it saw, a line for each.
+#![tactic(auto)]
 mod addresses;
 mod case;
 mod instructions;

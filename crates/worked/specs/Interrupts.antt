@@ -1,5 +1,5 @@
 -- Worked cases of levels, entries and exits.
-use Rattle.std.specs.Prelude.{◌≡◌, ℕ, Bool, true, false, List, [], ◌∷◌, ◌++◌, map, set, replicate, Some, None, Option, slice_set}
+use Rattle.std.specs.Prelude.{◌≡◌, ℕ, Bool, true, false, List, [], ◌∷◌, ◌++◌, map, replicate, Some, None, Option, slice_set}
 use Rattle.std.specs.List.{range_with_len}
 use Rattle.levels.specs.declared.level.Event.{Event}
 use Rattle.levels.specs.declared.level.Event.TheVariants.{Disarm, Arm, Trigger, Enter, Exit as Leave, Violate}

@@ -1,4 +1,6 @@
 //! Worked cases and laws of the machine's rules.
+#![tactic(auto)]
+
 ghost use Rattle.std.specs.Prelude.{◌≡◌, true};
 ghost use Rattle.worked.specs.Calling.{Begins, Called};
 ghost use Rattle.worked.specs.Cases.{Cases};

@@ -13,5 +13,5 @@ returns g c =
     let test = eq-eqb c.args.signal.step c.args.step c.if-signal-step.false in
     let s = c.signal_answer.ensures in
     IfOk-weaker c.write.result _ _
-    (λ _ d. signal_made (eqb c.args.signal.step c.args.step) c.args.signal.level (string_bytes before.text) (string_bytes after.text) c.as-str.result.now before.counts after.counts m n c.signal_answer.result test d (c.as-str.ensures.value ∙ c.in-ok-line.ensures) s.answer c.write.ensures.counts s.after)
+    (λ _ d. signal_made (eqb c.args.signal.step c.args.step) c.args.signal.level (string_bytes before.text) (string_bytes after.text) c.as_str.result.now before.counts after.counts m n c.signal_answer.result test d (c.as_str.ensures.value ∙ c.in_ok-line.ensures) s.answer c.write.ensures.counts s.after)
     c.write.ensures.text

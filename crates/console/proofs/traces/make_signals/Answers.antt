@@ -5,7 +5,7 @@ use Rattle.console.proofs.traces.make_signals.Goals as goal
 
 pub loop-signal-preserved : goal.loop-signal-preserved
 loop-signal-preserved g c =
-    signals_more c.args.signals.now _ c.loop-signal.signal-index c.args.step _ _ _ c.loop-signal-test.true c.loop-signal.invariant c.in-ok-make-signal.ensures
+    signals_more c.args.signals.now _ c.loop-signal.signal-index c.args.step _ _ _ c.loop-signal-test.true c.loop-signal.invariant c.in_ok-make_signal.ensures
 
 pub returns : goal.returns
 returns g c =

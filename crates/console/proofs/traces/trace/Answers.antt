@@ -10,4 +10,4 @@ returns-in-Ok c =
     let k = c.in-Ok.ensures in
     let l = accepted c.first.result.now _ _ zero c.new-processor.ensures.cpu _ _ k.answer k.after in
     let e = trace_loaded c.args.steps c.args.protect c.args.signals.now c.args.bytes.now c.first.result.now _ _ c.first.ensures l c.go-processor.ensures.after in
-    IfOk-weaker c.steps-text-text.result _ _ (λ s d. d ∙ e) c.steps-text-text.ensures
+    IfOk-weaker c.steps_text-text.result _ _ (λ s d. d ∙ e) c.steps_text-text.ensures

@@ -16,12 +16,12 @@ loop-record-preserved c =
     let n = c.next.ensures in
     let more = goes_on _ _ _ i.0 _ n.answer _ _ c.in-Some.ensures n.after in
     let t = string_bytes c.loop-record.text in
-    let v = string_bytes c.push-str.new.self in
+    let v = string_bytes c.push_str.new.self in
     let u = string_bytes c.push.new.self in
-    let b = string_bytes c.in-ok-line.line in (
+    let b = string_bytes c.in_ok-line.line in (
       ap (λ r. r.now) n.same ∙ i.0,
-      more t v u c.as-str.result.now b i.1 c.in-ok-push-str.ensures.bytes c.as-str.ensures.value c.in-ok-line.ensures c.in-ok-push.ensures.bytes,
+      more t v u c.as_str.result.now b i.1 c.in_ok-push_str.ensures.bytes c.as_str.ensures.value c.in_ok-line.ensures c.in_ok-push.ensures.bytes,
     )
 
 pub returns : goal.returns
-returns c = ends _ _ _ c.loop-record.invariant.0 _ c.next.ensures.answer _ c.loop-record.invariant.1 c.in-default.ensures
+returns c = ends _ _ _ c.loop-record.invariant.0 _ c.next.ensures.answer _ c.loop-record.invariant.1 c.in_default.ensures

@@ -9,4 +9,4 @@ returns c =
     let w = c.args.word in
     let r = c.new-core.result.words in
     let e = rebuilt c.store.new.self.words r (set (front r.now) at w) c.store.ensures.outside c.store.ensures.after in
-    c.into-words.ensures.value ∙ e.1 ∙ ap (λ ws. set (front ws) at w ++ behind ws) c.new-core.ensures.value
+    c.into_words.ensures.value ∙ e.1 ∙ ap (λ ws. set (front ws) at w ++ behind ws) c.new-core.ensures.value

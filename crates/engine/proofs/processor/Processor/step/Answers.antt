@@ -18,7 +18,7 @@ returns-in-Wait g c =
     let ws = g.M.Memory.words c.args.self.now.memory in
     let m = seen g.M.Memory.words c.args.self.now in
     let same : machine_of c.due.new.self ws ≡ m = λ i. record { cpu = c.due.ensures.same i; words = ws } in
-    let e = steps_idle m (machine_of c.due.new.self ws) _ same c.in-default.ensures.answer c.in-Wait.is refl in
+    let e = steps_idle m (machine_of c.due.new.self ws) _ same c.in_default.ensures.answer c.in-Wait.is refl in
     record { answer = e.answer; after = e.after; outside = refl; confined = e.confined }
 
 pub returns-in-Unset : goal.returns-in-Unset
@@ -26,5 +26,5 @@ returns-in-Unset g c =
     let ws = g.M.Memory.words c.args.self.now.memory in
     let m = seen g.M.Memory.words c.args.self.now in
     let same : machine_of c.due.new.self ws ≡ m = λ i. record { cpu = c.due.ensures.same i; words = ws } in
-    let e = steps_on m (machine_of c.due.new.self ws) _ same c.in-default.ensures.answer _ c.in-Unset.is c.fetch.ensures.answer c.fetch.ensures.after in
+    let e = steps_on m (machine_of c.due.new.self ws) _ same c.in_default.ensures.answer _ c.in-Unset.is c.fetch.ensures.answer c.fetch.ensures.after in
     record { answer = e.answer; after = e.after; outside = c.fetch.ensures.outside; confined = e.confined }

@@ -9,5 +9,5 @@ returns-then-self c =
     let s = c.args.self.now in
     record { answer = sym (quiet_lowest 16 0 c.args.ii c.args.ei (records s.bank) (s.quiet c.if-self.true)); same = refl }
 
-pub invariant-of-self : goal.invariant-of-self
-invariant-of-self c = (λ e. c.waits.ensures (not-true c.waits.result e), tt)
+pub invariant_of-self : goal.invariant_of-self
+invariant_of-self c = record { quiet = λ e. c.waits.ensures (not-true c.waits.result e) }

@@ -4,13 +4,13 @@ use Rattle.levels.specs.Levels.{bits_of, has, level_at}
 use Rattle.levels.proofs.Bits.{bits_none, byte_one, fits, shifted}
 use Rattle.levels.proofs.scans.Bank+Level.bits.Goals as goal
 
-pub overflow-mul-word : goal.overflow-mul-word
-overflow-mul-word c =
+pub overflow_mul-word : goal.overflow_mul-word
+overflow_mul-word c =
     let ls = records c.args.self.now in
     omega (arith, fits c.loop-k.k c.loop-k.word c.args.property ls (has c.args.property (level_at ls c.loop-k.k)) c.loop-k-test.true refl c.loop-k.invariant)
 
-pub overflow-add-word : goal.overflow-add-word
-overflow-add-word c =
+pub overflow_add-word : goal.overflow_add-word
+overflow_add-word c =
     let e = c.has.ensures ∙ ap (has c.args.property) c.level.ensures in
     omega (arith, byte_one c.has.result, fits c.loop-k.k c.loop-k.word c.args.property (records c.args.self.now) c.has.result c.loop-k-test.true e c.loop-k.invariant)
 

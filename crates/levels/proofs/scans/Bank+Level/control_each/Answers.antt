@@ -1,15 +1,15 @@
-use Rattle.std.proofs.Common.{◌≡◌, ◌-◌, true, false, sym, refl, ap, ◌∙◌, arith}
+use Rattle.std.proofs.Common.{◌≡◌, ◌-◌, true, false, sym, ap, ◌∙◌, arith}
 use Rattle.levels.specs.Banks.{records}
 use Rattle.levels.proofs.Turns.{controls, controls_none}
 use Rattle.levels.proofs.scans.Bank+Level.control_each.Goals as goal
-use Rattle.levels.proofs.scans.Bank+Level.control_each.Goals.{then-bit-of, else-bit-of}
+use Rattle.levels.proofs.scans.Bank+Level.control_each.Goals.{then-bit_of, else-bit_of}
 
 pub loop-k-preserved : goal.loop-k-preserved
 loop-k-preserved c =
     let ls = records c.loop-k.self in
-    elim c.if-bit-of.branch [
-      | then-bit-of w ↦ controls c.loop-k.k c.args.control c.args.bits ls _ _ true c.loop-k-test.true c.loop-k.invariant (sym w.if-bit-of.ensures) (ap records w.self-is ∙ w.control.ensures)
-      | else-bit-of w ↦ controls c.loop-k.k c.args.control c.args.bits ls _ _ false c.loop-k-test.true c.loop-k.invariant (sym w.if-bit-of.ensures) (ap records w.self-is)
+    elim c.if-bit_of.branch [
+      | then-bit_of w ↦ controls c.loop-k.k c.args.control c.args.bits ls _ _ true c.loop-k-test.true c.loop-k.invariant (sym w.if-bit_of.ensures) (ap records w.self-is ∙ w.control.ensures)
+      | else-bit_of w ↦ controls c.loop-k.k c.args.control c.args.bits ls _ _ false c.loop-k-test.true c.loop-k.invariant (sym w.if-bit_of.ensures) (ap records w.self-is)
     ]
 
 pub returns : goal.returns

@@ -1,4 +1,4 @@
-use Rattle.std.proofs.Common.{◌≡◌, ◌<◌, sym, refl, ap, ◌∙◌, arith, below_more}
+use Rattle.std.proofs.Common.{sym, refl, ap, ◌∙◌, arith, below_more}
 use Rattle.levels.specs.declared.level.Property.TheVariants.{Waiting}
 use Rattle.levels.specs.Banks.{records}
 use Rattle.levels.specs.Levels.{has}

@@ -14,9 +14,9 @@ returns-then-address-size c =
     let ps = c.args.self.now.plan.now.portions in
     let ws = c.args.self.now.words.now in
     let at = c.args.address in
-    let e : c.half-of.result ≡ half (get_or ws (place ps at) 0) at = c.half-of.ensures ∙ ap (λ i. half (get_or ws i 0) at) c.place-of-place.ensures in
+    let e : c.half_of.result ≡ half (get_or ws (place ps at) 0) at = c.half_of.ensures ∙ ap (λ i. half (get_or ws i 0) at) c.place_of-place.ensures in
     record {
-      answer = sym (fetched_word (adapted ps ws) at c.half-of.result (omega arith) (get_or_adapted ps ws at (omega arith) ∙ sym e));
+      answer = sym (fetched_word (adapted ps ws) at c.half_of.result (omega arith) (get_or_adapted ps ws at (omega arith) ∙ sym e));
       same = refl;
       outside = refl;
     }

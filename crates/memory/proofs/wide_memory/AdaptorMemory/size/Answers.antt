@@ -2,8 +2,8 @@ use Rattle.std.proofs.Common.{length, arith}
 use Rattle.memory.specs.Sizes.{length_adapted, lead_le}
 use Rattle.memory.proofs.wide_memory.AdaptorMemory.size.Goals as goal
 
-pub overflow-mul-result : goal.overflow-mul-result
-overflow-mul-result c =
+pub overflow_mul-result : goal.overflow_mul-result
+overflow_mul-result c =
     let m = c.args.self.now in
     omega (arith, m.plan.now.eight, lead_le m.plan.now.portions (length m.words.now))
 

@@ -22,13 +22,13 @@ returns-then-address-size c =
     let ws = m.words.now in
     let at = c.args.address in
     let w = c.args.word in
-    let x = c.with-half-wide.result in
-    let here : c.place-of-place.result ≡ place ps at = c.place-of-place.ensures in
-    let new : x ≡ merged (get_or ws (place ps at) 0) at w = c.with-half-wide.ensures ∙ ap (λ i. merged (get_or ws i 0) at w) here in
+    let x = c.with_half-wide.result in
+    let here : c.place_of-place.result ≡ place ps at = c.place_of-place.ensures in
+    let new : x ≡ merged (get_or ws (place ps at) 0) at w = c.with_half-wide.ensures ∙ ap (λ i. merged (get_or ws i 0) at w) here in
     let inside : at < length (adapted ps ws) = omega arith in
     record {
       after = ap (λ i. adapted ps (set ws i x)) here ∙ ap (λ y. adapted ps (set ws (place ps at) y)) new ∙ adapted_set ps ws at w m.plan.now.eight m.plan.now.apart inside (omega arith);
-      outside = ap (λ i. wide m.words.name ps (unreached ps (set ws i x))) here ∙ ap (wide m.words.name ps) (unreached_set ps ws at x inside);
+      outside = ap (λ i. wide m.words.ghost_name ps (unreached ps (set ws i x))) here ∙ ap (wide m.words.ghost_name ps) (unreached_set ps ws at x inside);
     }
 
 pub returns-else-address-size : goal.returns-else-address-size

@@ -1,5 +1,5 @@
 -- What the calls of an idle processor answer, and the machine after them.
-use Rattle.std.specs.Prelude.{ℕ, cond, List, length, set, Ok, Err, Result, nat_le, slice_set}
+use Rattle.std.specs.Prelude.{ℕ, cond, List, length, Ok, Err, Result, nat_le, slice_set}
 use Rattle.machine.specs.declared.refusal.Refusal.{Refusal}
 use Rattle.machine.specs.declared.refusal.Refusal.TheVariants.{NoAddress}
 use Rattle.machine.specs.State.{Cpu, Machine, protect_after, put_after, set_guard, set_protection, set_work}

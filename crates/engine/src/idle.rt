@@ -41,8 +41,8 @@ impl<M: Memory> Processor<Idle, M> {
     /// Sets register 1 to 7.
     pub fn deposit_register(&mut self, number: u8, word: u16) -> Result<(), Refusal>
         ensures answer { result ≡ put_answer number }
-        ensures after { seen words self.new ≡ put number word (seen words self.old) }
-        ensures outside { outer self.new.memory ≡ outer self.old.memory }
+        ensures after { seen M.words self.new ≡ put number word (seen M.words self.old) }
+        ensures outside { M.outer self.new.memory ≡ M.outer self.old.memory }
     {
         self.state.work.put(number, word)
     }
@@ -50,17 +50,17 @@ impl<M: Memory> Processor<Idle, M> {
     /// Sets protection register 0 to 15.
     pub fn deposit_protection(&mut self, number: u8, word: u16) -> Result<(), Refusal>
         ensures answer { result ≡ protect_answer number }
-        ensures after { seen words self.new ≡ protected number word (seen words self.old) }
-        ensures outside { outer self.new.memory ≡ outer self.old.memory }
+        ensures after { seen M.words self.new ≡ protected number word (seen M.words self.old) }
+        ensures outside { M.outer self.new.memory ≡ M.outer self.old.memory }
     {
         self.state.protection.set(number, word)
     }
 
     /// Sets the memory word at an address below the size.
     pub fn deposit_word(&mut self, address: u16, word: u16) -> Result<(), Refusal>
-        ensures answer { result ≡ deposit_answer address (words self.old.memory) }
-        ensures after { seen words self.new ≡ deposited address word (seen words self.old) }
-        ensures outside { outer self.new.memory ≡ outer self.old.memory }
+        ensures answer { result ≡ deposit_answer address (M.words self.old.memory) }
+        ensures after { seen M.words self.new ≡ deposited address word (seen M.words self.old) }
+        ensures outside { M.outer self.new.memory ≡ M.outer self.old.memory }
     {
         if address as u32 >= self.memory.size() {
             return Err(Refusal::NoAddress);
@@ -71,9 +71,9 @@ impl<M: Memory> Processor<Idle, M> {
 
     /// Sets the processor going, with the protect switch on or off.
     pub fn go(self, protect: bool) -> Processor<Running, M>
-        ensures after { seen words result ≡ gone protect (seen words self) }
+        ensures after { seen M.words result ≡ gone protect (seen M.words self) }
         ensures memory { result.memory ≡ self.memory }
-        ensures isolated { protect ≡ true → Isolated (seen words result) }
+        ensures isolated { protect ≡ true → Isolated (seen M.words result) }
     {
         let Processor {
             mut state,

@@ -12,8 +12,8 @@ use memory::Memory;
 impl<M: Memory> Processor<Idle, M> {
     // Stores a record that the check has let through.
     fn store(&mut self, item: Record)
-        ensures after { seen words self.new ≡ stored item (seen words self.old) }
-        ensures outside { outer self.new.memory ≡ outer self.old.memory }
+        ensures after { seen M.words self.new ≡ stored item (seen M.words self.old) }
+        ensures outside { M.outer self.new.memory ≡ M.outer self.old.memory }
     {
         match item {
             Record::Word { address, word } => self.memory.store(address, word),
@@ -29,10 +29,10 @@ impl<M: Memory> Processor<Idle, M> {
 
     /// Loads an image, and answers how many records it has; a refused one is not loaded at all.
     pub fn load(&mut self, bytes: &[u8]) -> Result<usize, Fault>
-        ensures answer { result ≡ counted 0 (verdict (length (words self.old.memory)) bytes.now) }
-        ensures after { seen words self.new ≡ load_after (verdict (length (words self.old.memory)) bytes.now) (seen words self.old) }
-        ensures outside { outer self.new.memory ≡ outer self.old.memory }
-        ensures law { Law bytes.now result (seen words self.old) (seen words self.new) }
+        ensures answer { result ≡ counted 0 (verdict (length (M.words self.old.memory)) bytes.now) }
+        ensures after { seen M.words self.new ≡ load_after (verdict (length (M.words self.old.memory)) bytes.now) (seen M.words self.old) }
+        ensures outside { M.outer self.new.memory ≡ M.outer self.old.memory }
+        ensures law { Law bytes.now result (seen M.words self.old) (seen M.words self.new) }
     {
         let count = image::check(bytes, self.memory.size())?;
         let mut reader = Reader::new(bytes);

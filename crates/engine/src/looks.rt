@@ -33,9 +33,9 @@ impl<K, M: Memory> Processor<K, M> {
 
     /// The memory word at an address below the size.
     pub fn word(&mut self, address: u16) -> Result<u16, Refusal>
-        ensures answer { result ≡ word_answer address (words self.old.memory) }
-        ensures same { seen words self.new ≡ seen words self.old }
-        ensures outside { outer self.new.memory ≡ outer self.old.memory }
+        ensures answer { result ≡ word_answer address (M.words self.old.memory) }
+        ensures same { seen M.words self.new ≡ seen M.words self.old }
+        ensures outside { M.outer self.new.memory ≡ M.outer self.old.memory }
     {
         match self.memory.fetch(address) {
             Fetched::Word(word) => Ok(word),

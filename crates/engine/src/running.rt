@@ -28,11 +28,11 @@ fn tally(counts: &mut Counts, outcome: Outcome)
 impl<K: Live, M: Memory> Processor<K, M> {
     /// At most 1,000,000 steps, and how many were of each kind.
     pub fn run(&mut self, steps: u32) -> Result<Counts, Refusal>
-        ensures answer { result ≡ run_answer steps (seen words self.old) }
-        ensures after { seen words self.new ≡ after_call (Call.Run steps) (seen words self.old) }
-        ensures outside { outer self.new.memory ≡ outer self.old.memory }
+        ensures answer { result ≡ run_answer steps (seen M.words self.old) }
+        ensures after { seen M.words self.new ≡ after_call (Call.Run steps) (seen M.words self.old) }
+        ensures outside { M.outer self.new.memory ≡ M.outer self.old.memory }
         ensures sum { IfOk result (λ n. total n ≡ steps) }
-        ensures confined { (seen words self.old).cpu.switch ≡ true → Each Confined (run_trail steps (seen words self.old)) }
+        ensures confined { (seen M.words self.old).cpu.switch ≡ true → Each Confined (run_trail steps (seen M.words self.old)) }
     {
         if steps > 1_000_000 {
             return Err(Refusal::RunTooLong);
@@ -54,9 +54,9 @@ impl<K: Live, M: Memory> Processor<K, M> {
 
     /// A signal to level 1 to 15.
     pub fn signal(&mut self, level: u8) -> Result<Signalled, Refusal>
-        ensures answer { result ≡ signal_answer level (seen words self.old) }
-        ensures after { seen words self.new ≡ after_call (Call.Signal level) (seen words self.old) }
-        ensures outside { outer self.new.memory ≡ outer self.old.memory }
+        ensures answer { result ≡ signal_answer level (seen M.words self.old) }
+        ensures after { seen M.words self.new ≡ after_call (Call.Signal level) (seen M.words self.old) }
+        ensures outside { M.outer self.new.memory ≡ M.outer self.old.memory }
     {
         if level > 15 {
             return Err(Refusal::NoLevel);
@@ -74,9 +74,9 @@ impl<K: Live, M: Memory> Processor<K, M> {
 
     /// Makes a call, and answers as the call itself does.
     pub fn perform(&mut self, call: Call) -> Answer
-        ensures answer { result ≡ answered call (seen words self.old) }
-        ensures after { seen words self.new ≡ after_call call (seen words self.old) }
-        ensures outside { outer self.new.memory ≡ outer self.old.memory }
+        ensures answer { result ≡ answered call (seen M.words self.old) }
+        ensures after { seen M.words self.new ≡ after_call call (seen M.words self.old) }
+        ensures outside { M.outer self.new.memory ≡ M.outer self.old.memory }
     {
         match call {
             Call::Step => Answer::Stepped(self.step()),
@@ -100,8 +100,8 @@ impl<K: Live, M: Memory> Processor<K, M> {
 
     /// Makes calls in their order.
     pub fn perform_all(&mut self, calls: &[Call])
-        ensures after { seen words self.new ≡ after_calls calls.now (seen words self.old) }
-        ensures outside { outer self.new.memory ≡ outer self.old.memory }
+        ensures after { seen M.words self.new ≡ after_calls calls.now (seen M.words self.old) }
+        ensures outside { M.outer self.new.memory ≡ M.outer self.old.memory }
     {
         for call in calls {
             let _ = self.perform(*call);
@@ -112,7 +112,7 @@ impl<K: Live, M: Memory> Processor<K, M> {
 impl<M: Memory> Processor<Running, M> {
     /// Makes the processor idle, with all that it holds.
     pub fn halt(self) -> Processor<Idle, M>
-        ensures after { seen words result ≡ seen words self }
+        ensures after { seen M.words result ≡ seen M.words self }
         ensures memory { result.memory ≡ self.memory }
     {
         let Processor {

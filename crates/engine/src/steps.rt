@@ -16,10 +16,10 @@ use memory::{Fetched, Memory};
 impl<K: Live, M: Memory> Processor<K, M> {
     // What an address reads: 0 where the word is absent.
     fn read(&mut self, address: u16) -> u16
-        ensures answer { result ≡ word_at (words self.old.memory) address }
+        ensures answer { result ≡ word_at (M.words self.old.memory) address }
         ensures state { self.new.state ≡ self.old.state }
-        ensures same { words self.new.memory ≡ words self.old.memory }
-        ensures outside { outer self.new.memory ≡ outer self.old.memory }
+        ensures same { M.words self.new.memory ≡ M.words self.old.memory }
+        ensures outside { M.outer self.new.memory ≡ M.outer self.old.memory }
     {
         match self.memory.fetch(address) {
             Fetched::Word(word) => word,
@@ -29,8 +29,8 @@ impl<K: Live, M: Memory> Processor<K, M> {
 
     // Entry of a level: its cell is read before the status words are stored.
     fn enter(&mut self, number: u8)
-        ensures after { seen words self.new ≡ enter number (seen words self.old) }
-        ensures outside { outer self.new.memory ≡ outer self.old.memory }
+        ensures after { seen M.words self.new ≡ enter number (seen M.words self.old) }
+        ensures outside { M.outer self.new.memory ≡ M.outer self.old.memory }
     {
         let cell = self.read(0x0100 + number as u16);
         let status = self.state.status();
@@ -42,10 +42,10 @@ impl<K: Live, M: Memory> Processor<K, M> {
 
     // The effective address of an instruction word at P, for the codes that have one.
     fn address(&mut self, word: u16) -> u16
-        ensures answer { result ≡ addressed (seen words self.old).cpu.work.p (seen words self.old).cpu.work (words self.old.memory) word }
+        ensures answer { result ≡ addressed (seen M.words self.old).cpu.work.p (seen M.words self.old).cpu.work (M.words self.old.memory) word }
         ensures state { self.new.state ≡ self.old.state }
-        ensures same { words self.new.memory ≡ words self.old.memory }
-        ensures outside { outer self.new.memory ≡ outer self.old.memory }
+        ensures same { M.words self.new.memory ≡ M.words self.old.memory }
+        ensures outside { M.outer self.new.memory ≡ M.outer self.old.memory }
     {
         if !addresses(word) {
             return 0;
@@ -71,10 +71,10 @@ impl<K: Live, M: Memory> Processor<K, M> {
 
     // The instruction at P.
     fn instruction(&mut self) -> Instruction
-        ensures answer { result ≡ instruction (seen words self.old) }
+        ensures answer { result ≡ instruction (seen M.words self.old) }
         ensures state { self.new.state ≡ self.old.state }
-        ensures same { words self.new.memory ≡ words self.old.memory }
-        ensures outside { outer self.new.memory ≡ outer self.old.memory }
+        ensures same { M.words self.new.memory ≡ M.words self.old.memory }
+        ensures outside { M.outer self.new.memory ≡ M.outer self.old.memory }
     {
         let place = self.state.work.p;
         let word = self.read(place);
@@ -84,8 +84,8 @@ impl<K: Live, M: Memory> Processor<K, M> {
 
     // Carries an instruction out after its fetch; an LDX exits where `exits`.
     fn act(&mut self, exits: bool, instruction: Instruction)
-        ensures after { seen words self.new ≡ act exits instruction (seen words self.old) }
-        ensures outside { outer self.new.memory ≡ outer self.old.memory }
+        ensures after { seen M.words self.new ≡ act exits instruction (seen M.words self.old) }
+        ensures outside { M.outer self.new.memory ≡ M.outer self.old.memory }
     {
         match instruction {
             Instruction::Lda(address) => self.state.work.a = self.read(address),
@@ -127,9 +127,9 @@ impl<K: Live, M: Memory> Processor<K, M> {
 
     // Fetches at P, judges the instruction and carries it out, at the PP that the fetch leaves.
     fn instruct(&mut self, pp: bool) -> Outcome
-        ensures answer { result ≡ (by_fetch (Some pp) (seen words self.old)).outcome }
-        ensures after { seen words self.new ≡ (by_fetch (Some pp) (seen words self.old)).after }
-        ensures outside { outer self.new.memory ≡ outer self.old.memory }
+        ensures answer { result ≡ (by_fetch (Some pp) (seen M.words self.old)).outcome }
+        ensures after { seen M.words self.new ≡ (by_fetch (Some pp) (seen M.words self.old)).after }
+        ensures outside { M.outer self.new.memory ≡ M.outer self.old.memory }
     {
         let instruction = self.instruction();
         if let Some(found) = self.state.judge(pp, instruction) {
@@ -143,9 +143,9 @@ impl<K: Live, M: Memory> Processor<K, M> {
 
     // Fetches at P, unless that is an entry violation.
     fn fetch(&mut self) -> Outcome
-        ensures answer { result ≡ (at_fetch (seen words self.old)).outcome }
-        ensures after { seen words self.new ≡ (at_fetch (seen words self.old)).after }
-        ensures outside { outer self.new.memory ≡ outer self.old.memory }
+        ensures answer { result ≡ (at_fetch (seen M.words self.old)).outcome }
+        ensures after { seen M.words self.new ≡ (at_fetch (seen M.words self.old)).after }
+        ensures outside { M.outer self.new.memory ≡ M.outer self.old.memory }
     {
         match self.state.fetch_pp() {
             Some(pp) => self.instruct(pp),
@@ -166,10 +166,10 @@ impl<K: Live, M: Memory> Processor<K, M> {
 
     /// One step.
     pub fn step(&mut self) -> Outcome
-        ensures answer { result ≡ (stepped (seen words self.old)).outcome }
-        ensures after { seen words self.new ≡ (stepped (seen words self.old)).after }
-        ensures outside { outer self.new.memory ≡ outer self.old.memory }
-        ensures confined { (seen words self.old).cpu.switch ≡ true → Confined (stepped (seen words self.old)) }
+        ensures answer { result ≡ (stepped (seen M.words self.old)).outcome }
+        ensures after { seen M.words self.new ≡ (stepped (seen M.words self.old)).after }
+        ensures outside { M.outer self.new.memory ≡ M.outer self.old.memory }
+        ensures confined { (seen M.words self.old).cpu.switch ≡ true → Confined (stepped (seen M.words self.old)) }
     {
         if let Some(level) = self.state.due() {
             self.enter(level);
@@ -183,8 +183,8 @@ impl<K: Live, M: Memory> Processor<K, M> {
 
     // LDX: an exit by two status words, or an index.
     fn index(&mut self, exits: bool, address: u16)
-        ensures after { seen words self.new ≡ index exits address (seen words self.old) }
-        ensures outside { outer self.new.memory ≡ outer self.old.memory }
+        ensures after { seen M.words self.new ≡ index exits address (seen M.words self.old) }
+        ensures outside { M.outer self.new.memory ≡ M.outer self.old.memory }
     {
         let first = self.read(address);
         if exits {

@@ -1,4 +1,4 @@
-use Rattle.std.proofs.Common.{◌≡◌, length, Ok, sym, refl, ap, ◌∙◌}
+use Rattle.std.proofs.Common.{length, refl, ap, ◌∙◌}
 use Rattle.image.specs.Reading.{counted, verdict}
 use Rattle.engine.specs.View.{seen}
 use Rattle.engine.proofs.Loads.{begin, ends, goes_on, lawful_at, never}

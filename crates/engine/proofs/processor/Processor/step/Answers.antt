@@ -1,5 +1,4 @@
-use Rattle.std.proofs.Common.{◌≡◌, refl, ap, ◌∙◌}
-use Rattle.machine.specs.State.{Machine}
+use Rattle.std.proofs.Common.{◌≡◌, refl}
 use Rattle.machine.specs.View.{machine_of}
 use Rattle.engine.specs.View.{seen}
 use Rattle.engine.proofs.Stepping.{steps_idle, steps_in, steps_on}

@@ -6,8 +6,6 @@ use Rattle.machine.specs.declared.call.Counts.{Counts}
 use Rattle.machine.specs.declared.refusal.Refusal.{Refusal}
 use Rattle.machine.specs.Calls.{counts_of, gone, or_refusal, run_answer, run_refusal, run_trail}
 use Rattle.machine.specs.State.{Machine}
-use Rattle.engine.specs.Loads.{loaded}
-use Rattle.listing.specs.Listing.{blank}
 use Rattle.console.specs.Runs.{ran, run_counts}
 use Rattle.console.proofs.Loads.{Loaded}
 

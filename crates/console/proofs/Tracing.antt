@@ -1,5 +1,5 @@
 -- How a trace goes on, line by line.
-use Rattle.std.proofs.Common.{◌≡◌, ℕ, suc, ◌+◌, ◌-◌, ◌<◌, ◌≤◌, Bool, true, false, cond, eqb, ltb, List, [], ◌∷◌, ◌++◌, length, get_or, take, drop, is_ok, IfOk, Ok, Err, Result, sym, refl, ap, ◌∙◌, append_assoc, arith}
+use Rattle.std.proofs.Common.{◌≡◌, ℕ, suc, ◌+◌, ◌-◌, ◌<◌, ◌≤◌, Bool, true, false, cond, eqb, List, [], ◌∷◌, ◌++◌, length, get_or, take, drop, is_ok, IfOk, Ok, Err, Result, sym, refl, ap, ◌∙◌, append_assoc, arith}
 use Rattle.std.proofs.lemmas.List.{at_drop_all, at_drop_more}
 use Rattle.std.proofs.lemmas.Bool.{cond-false, le-ltb}
 use Rattle.machine.specs.declared.call.Call.TheVariants.{Signal as SignalCall}
@@ -8,7 +8,7 @@ use Rattle.machine.specs.declared.call.Outcome.{Outcome}
 use Rattle.machine.specs.declared.call.Outcome.TheVariants.{Entered, Idle, Violated, Stalled, NotCarried, Done}
 use Rattle.machine.specs.declared.call.Signalled.{Signalled}
 use Rattle.machine.specs.declared.refusal.Refusal.{Refusal}
-use Rattle.machine.specs.Calls.{after_call, gone, no_counts, signal_answer, tallied, total}
+use Rattle.machine.specs.Calls.{after_call, gone, signal_answer, tallied, total}
 use Rattle.machine.specs.State.{Machine, registers}
 use Rattle.machine.specs.Step.{step}
 use Rattle.image.specs.Reading.{verdict}

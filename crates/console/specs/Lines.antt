@@ -1,5 +1,5 @@
 -- The lines of a trace, as lists of bytes without their line feeds.
-use Rattle.std.specs.Prelude.{ℕ, cond, List, [], ◌∷◌, ◌++◌, Some, None, Ok, Err, codes, decimal, Option, Result, ◌==◌, slice_index}
+use Rattle.std.specs.Prelude.{ℕ, cond, List, [], ◌++◌, Some, None, Ok, Err, codes, decimal, Option, Result, ◌==◌, slice_index}
 use Rattle.listing.specs.Text.{hex}
 use Rattle.machine.specs.declared.call.Counts.{Counts}
 use Rattle.machine.specs.declared.call.Outcome.{Outcome}

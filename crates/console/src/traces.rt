@@ -79,7 +79,7 @@ fn make_signal<M: Memory>(
     signal: Signal,
     step: u32,
 ) -> Result<(), AllocError>
-    ensures { OnOk result (at page.new (seen words processor.new) ≡ signal_if (signal.step == step) signal.level (at page.old (seen words processor.old))) }
+    ensures { OnOk result (at page.new (seen M.words processor.new) ≡ signal_if (signal.step == step) signal.level (at page.old (seen M.words processor.old))) }
 {
     if signal.step != step {
         return Ok(());
@@ -97,7 +97,7 @@ fn make_signals<M: Memory>(
     signals: &[Signal],
     step: u32,
 ) -> Result<(), AllocError>
-    ensures { OnOk result (at page.new (seen words processor.new) ≡ signals_at step signals.now (at page.old (seen words processor.old))) }
+    ensures { OnOk result (at page.new (seen M.words processor.new) ≡ signals_at step signals.now (at page.old (seen M.words processor.old))) }
 {
     for signal in signals {
         make_signal(heap, processor, page, *signal, step)?;
@@ -113,7 +113,7 @@ fn make_step<M: Memory>(
     number: u32,
 ) -> Result<(), AllocError>
     requires { Room page.old.counts }
-    ensures { OnOk result (at page.new (seen words processor.new) ≡ step_at number (at page.old (seen words processor.old))) }
+    ensures { OnOk result (at page.new (seen M.words processor.new) ≡ step_at number (at page.old (seen M.words processor.old))) }
 {
     let before = processor.registers();
     let outcome = processor.step();
@@ -130,7 +130,7 @@ fn steps_text<M: Memory>(
     steps: u32,
     signals: &[Signal],
 ) -> Result<String, AllocError>
-    ensures { IfOk result (λ s. string_bytes s ≡ trace_of steps signals.now (seen words processor.old)) }
+    ensures { IfOk result (λ s. string_bytes s ≡ trace_of steps signals.now (seen M.words processor.old)) }
 {
     if steps > 1_000_000 {
         let number = Refusal::RunTooLong.number();

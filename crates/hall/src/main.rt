@@ -1,5 +1,6 @@
 //! The story of a hall whose keys a print program reaches, with the protect switch on and with it off.
 #![tactic(auto)]
+
 mod hall;
 mod image_bytes;
 mod tell;

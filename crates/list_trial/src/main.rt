@@ -1,5 +1,6 @@
 //! Prints the listings of images that try each rule.
 #![tactic(auto)]
+
 use cases::CASES;
 use std::alloc::{AllocError, Global};
 use std::io;

@@ -1,5 +1,6 @@
 // Tries each kind of memory at its edges, and prints what it saw.
 #![tactic(auto)]
+
 mod adaptor_trial;
 mod core_trial;
 mod counted_memory;

@@ -7,9 +7,9 @@ use std::io;
 
 // A store, and then a fetch at the same address.
 pub(crate) fn tried<M: Memory>(memory: &mut M, address: u16, word: u16) -> Fetched
-    ensures answer { result ≡ fetched_at (slice_set (words memory.old) address word) address }
-    ensures after { words memory.new ≡ slice_set (words memory.old) address word }
-    ensures outside { outer memory.new ≡ outer memory.old }
+    ensures answer { result ≡ fetched_at (slice_set (M.words memory.old) address word) address }
+    ensures after { M.words memory.new ≡ slice_set (M.words memory.old) address word }
+    ensures outside { M.outer memory.new ≡ M.outer memory.old }
 {
     memory.store(address, word);
     memory.fetch(address)
@@ -17,7 +17,7 @@ pub(crate) fn tried<M: Memory>(memory: &mut M, address: u16, word: u16) -> Fetch
 
 // The last address, or 0 where there is none.
 pub(crate) fn last<M: Memory>(memory: &M) -> u16
-    ensures { result ≡ length (words memory.now) - 1 }
+    ensures { result ≡ length (M.words memory.now) - 1 }
 {
     memory.size().saturating_sub(1) as u16
 }

@@ -1,5 +1,6 @@
 //! Prints the listing of the image on standard input.
 #![tactic(auto)]
+
 use std::io;
 use std::io::Read;
 

@@ -1,5 +1,6 @@
 //! Prints the counts of a run of the image on standard input, or the number of its refusal.
 #![tactic(auto)]
+
 use std::io;
 use std::io::Read;
 

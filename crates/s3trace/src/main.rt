@@ -5,6 +5,7 @@
 //! code that is not carried, 0885 reads a protection register, and 0886 branches to protected 0602. Level 0 steps
 //! over the violation by its status words at 0600 and exits; level 5 exits at once by those at 0700.
 #![tactic(auto)]
+
 ghost use Rattle.std.specs.Prelude.{◌≡◌, ◌<◌, length, IfSome, if◌then◌else◌, codes, OnSome};
 
 use console::Signal;

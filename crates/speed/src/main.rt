@@ -1,5 +1,6 @@
 //! Runs a mixed loop, by default 20 times 1,000,000 steps, and prints what came of it.
 #![tactic(auto)]
+
 mod sums;
 
 use engine::{Idle, Processor, Running};

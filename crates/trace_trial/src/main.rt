@@ -1,5 +1,6 @@
 //! Prints runs and traces that try what one trace does not.
 #![tactic(auto)]
+
 use console::Signal;
 use std::io;
 

@@ -1,9 +1,10 @@
 //! Tries worked cases through the calls of a processor, and prints what it saw, a line for each.
 #![tactic(auto)]
+
 mod addresses;
 mod case;
 mod instructions;
-mod levels;
+mod interrupts;
 mod limits;
 
 use std::io;
@@ -13,11 +14,11 @@ fn main(rt: HostRuntime) -> io::Result<()> {
         case::carry_out(&rt, &one.case())?;
     }
     addresses::run(&rt)?;
-    case::carry_out(&rt, &levels::STORE)?;
-    case::carry_out(&rt, &levels::STALL)?;
-    case::carry_out(&rt, &levels::ENTRY_AND_EXIT)?;
-    case::carry_out(&rt, &levels::EXIT_SWITCH_OFF)?;
-    case::carry_out(&rt, &levels::INHIBITED)?;
-    case::carry_out(&rt, &levels::EXTERNAL)?;
+    case::carry_out(&rt, &interrupts::STORE)?;
+    case::carry_out(&rt, &interrupts::STALL)?;
+    case::carry_out(&rt, &interrupts::ENTRY_AND_EXIT)?;
+    case::carry_out(&rt, &interrupts::EXIT_SWITCH_OFF)?;
+    case::carry_out(&rt, &interrupts::INHIBITED)?;
+    case::carry_out(&rt, &interrupts::EXTERNAL)?;
     limits::run(&rt)
 }

@@ -1,17 +1,16 @@
 -- What a fetch answers of one list, from what it answers of another. Assumes nothing.
-use Rattle.std.proofs.Common.{◌≡◌, ℕ, ◌+◌, ◌<◌, ◌≤◌, List, ◌++◌, length, get_or, sym, refl, ap, ◌∙◌, inl, inr, arith}
+use Rattle.std.proofs.Common.{◌≡◌, ℕ, ◌+◌, ◌<◌, ◌≤◌, List, ◌++◌, length, get_or, Some, None, sym, refl, ap, ◌∙◌, inl, inr, arith}
 use Rattle.std.proofs.lemmas.List.{get_or-take, get_or_append_left, get_or-append-add}
 use Rattle.std.proofs.lemmas.Bool.{cases_lt, cond-true, cond-false, lt-ltb, le-ltb}
-use Rattle.memory.specs.declared.Fetched.TheVariants.{Word, Absent}
 use Rattle.memory.specs.Fetches.{fetched_at}
 use Rattle.memory.specs.Words.{joint}
 use Rattle.memory.proofs.Places.{length_joint}
 
-pub fetched_word : (ws : List ℕ) (at w : ℕ) → at < length ws → get_or ws at 0 ≡ w → fetched_at ws at ≡ Word w
-fetched_word ws at w h e = cond-true _ (Word (get_or ws at 0)) Absent (lt-ltb at (length ws) h) ∙ ap Word e
+pub fetched_word : (ws : List ℕ) (at w : ℕ) → at < length ws → get_or ws at 0 ≡ w → fetched_at ws at ≡ Some w
+fetched_word ws at w h e = cond-true _ (Some (get_or ws at 0)) None (lt-ltb at (length ws) h) ∙ ap Some e
 
-pub fetched_absent : (ws : List ℕ) (at : ℕ) → length ws ≤ at → fetched_at ws at ≡ Absent
-fetched_absent ws at h = cond-false _ (Word (get_or ws at 0)) Absent (le-ltb at (length ws) h)
+pub fetched_absent : (ws : List ℕ) (at : ℕ) → length ws ≤ at → fetched_at ws at ≡ None
+fetched_absent ws at h = cond-false _ (Some (get_or ws at 0)) None (le-ltb at (length ws) h)
 
 module _ (xs ys : List ℕ) where
   pub joint_fetched_first : (i : ℕ) → i < length xs → i < 65536 → fetched_at xs i ≡ fetched_at (joint xs ys) i

@@ -1,8 +1,6 @@
 -- What a fetch answers. Assumes nothing.
-use Rattle.std.specs.Prelude.{ℕ, cond, List, length, nat_lt, slice_index}
-use Rattle.memory.specs.declared.Fetched.{Fetched}
-use Rattle.memory.specs.declared.Fetched.TheVariants.{Word, Absent}
+use Rattle.std.specs.Prelude.{ℕ, cond, List, length, Some, None, Option, nat_lt, slice_index}
 
 -- the word at an address below the length, and none at or above it
-abbrev pub fetched_at : List ℕ → ℕ → Fetched
-fetched_at ws at = cond (nat_lt at (length ws)) (Word (slice_index ws at)) Absent
+abbrev pub fetched_at : List ℕ → ℕ → Option ℕ
+fetched_at ws at = cond (nat_lt at (length ws)) (Some (slice_index ws at)) None

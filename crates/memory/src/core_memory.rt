@@ -4,7 +4,7 @@ ghost use Rattle.memory.specs.Outer.{outer_row};
 ghost use Rattle.memory.specs.Sizes.{front_sized};
 ghost use Rattle.memory.specs.Words.{front, whole};
 
-use crate::{Fetched, Memory};
+use crate::Memory;
 
 // The words of a block.
 const BLOCK: usize = 8192;
@@ -49,11 +49,11 @@ impl Memory for Core<'_> {
         whole_blocks(self.words.len())
     }
 
-    fn fetch(&mut self, address: u16) -> Fetched {
+    fn fetch(&mut self, address: u16) -> Option<u16> {
         if (address as u32) < self.size() {
-            Fetched::Word(self.words[address as usize])
+            Some(self.words[address as usize])
         } else {
-            Fetched::Absent
+            None
         }
     }
 

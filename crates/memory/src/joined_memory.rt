@@ -4,7 +4,7 @@ ghost use Rattle.memory.specs.Outer.{outer_pair};
 ghost use Rattle.memory.specs.Sizes.{joint_sized};
 ghost use Rattle.memory.specs.Words.{joint};
 
-use crate::{Fetched, Memory};
+use crate::Memory;
 
 // How many addresses there are of 16 bits.
 const ADDRESSES: u32 = 65536;
@@ -42,7 +42,7 @@ impl<A: Memory, B: Memory> Memory for Joined<A, B> {
         (self.first.size() + self.second.size()).min(ADDRESSES)
     }
 
-    fn fetch(&mut self, address: u16) -> Fetched {
+    fn fetch(&mut self, address: u16) -> Option<u16> {
         let split = self.first.size();
         if (address as u32) < split {
             self.first.fetch(address)

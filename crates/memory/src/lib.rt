@@ -18,13 +18,6 @@ pub use portions::Plan;
 pub use refusals::PlanRefusal;
 pub use wide_memory::Adaptor;
 
-// What a fetch answers: an address at or above the size has no word.
-#[derive(Clone, Copy, PartialEq, Eq, Debug)]
-pub enum Fetched {
-    Word(u16),
-    Absent,
-}
-
 pub trait Memory {
     // The meaning: the words by address, as many as the size.
     ghost words: { Self → List ℕ };
@@ -38,8 +31,8 @@ pub trait Memory {
     fn size(&self) -> u32
         ensures answer { result ≡ length (words self.now) };
 
-    // An exclusive reference, so that an implementation may change inside while its meaning stays.
-    fn fetch(&mut self, address: u16) -> Fetched
+    // An address at or above the size has no word. An exclusive reference, so that an implementation may change inside while its meaning stays.
+    fn fetch(&mut self, address: u16) -> Option<u16>
         ensures answer { result ≡ fetched_at (words self.old) address }
         ensures same { words self.new ≡ words self.old }
         ensures outside { outer self.new ≡ outer self.old };

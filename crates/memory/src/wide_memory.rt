@@ -5,7 +5,7 @@ ghost use Rattle.memory.specs.Sizes.{adapted_sized};
 ghost use Rattle.memory.specs.Wide.{lead, place, half, merged, adapted};
 
 use crate::portions::Plan;
-use crate::{Fetched, Memory};
+use crate::Memory;
 
 // The addresses of a block.
 const BLOCK: u16 = 8192;
@@ -90,12 +90,12 @@ impl Memory for Adaptor<'_, '_> {
         BLOCK as u32 * leading(self.plan, self.words.len())
     }
 
-    fn fetch(&mut self, address: u16) -> Fetched {
+    fn fetch(&mut self, address: u16) -> Option<u16> {
         if (address as u32) < self.size() {
             let place = place_of(self.plan, address);
-            Fetched::Word(half_of(self.words[place], address))
+            Some(half_of(self.words[place], address))
         } else {
-            Fetched::Absent
+            None
         }
     }
 

@@ -1,6 +1,10 @@
 -- Whether another block holds a portion, and plans that stay sound. Assumes nothing.
-use Rattle.std.proofs.Common.{◌≡◌, ℕ, zero, suc, ◌+◌, ◌<◌, true, false, ◌≢◌, List, length, get_or, set, sym, ap, ◌∙◌, inl, inr, add-one, arith}
-use Rattle.std.proofs.lemmas.List.{get_or-set_same, get_or-set_other}
+use Rattle.std.proofs.Common.{◌≡◌, ℕ, zero, suc, ◌<◌, ◌≤◌, Bool, true, false, not, ◌&&◌, ◌||◌, eqb, ◌≢◌, List, length, get_or, take, set, sym, refl, ap, ◌∙◌, inl, inr, add-one, zero-add, arith}
+use Rattle.std.specs.List.{list_any, enumerate_from}
+use Rattle.std.proofs.Math.Bool.{or_comm}
+use Rattle.std.proofs.lemmas.List.{get_or-set_same, get_or-set_other, take_all}
+use Rattle.std.proofs.lemmas.List.Folds.{list_any_more}
+use Rattle.std.proofs.lemmas.List.FromFn.{length-enumerate_from, get_or-enumerate_from}
 use Rattle.std.proofs.lemmas.Bool.{cases_eq, or_right, both_ways}
 use Rattle.std.proofs.lemmas.Bool.Decides.{nat_tests}
 use Rattle.memory.specs.Changes.{held_below}
@@ -18,11 +22,21 @@ module _ (ps : List ℕ) (b p : ℕ) where
   pub held_not : (n k : ℕ) → held_below ps b p n ≡ false → k < n → (k ≡ b → ⊥) → get_or ps k 0 ≡ p → ⊥
   held_not n k f h ne e = both_ways _ f (held_found k n h ne e)
 
-  pub held_more : (n : ℕ) → held_below ps b p n ≡ false → (n ≡ b → ⊥) → (get_or ps n 0 ≡ p → ⊥) → held_below ps b p (n + 1) ≡ false
-  held_more n f ne d = rw add-one (grind (arith, nat_tests))
+  -- the test of a block with its portion
+  abbrev pub is_held : ℕ × ℕ → Bool
+  is_held t = not (eqb t.0 b) && eqb t.1 p
 
-  pub held_pass : (n : ℕ) → held_below ps b p n ≡ false → n ≡ b → held_below ps b p (n + 1) ≡ false
-  held_pass n f e = rw add-one (grind (arith, nat_tests))
+  held_front : (n : ℕ) → n ≤ length ps → list_any is_held (take n (enumerate_from 0 ps)) ≡ held_below ps b p n
+  held_front zero h = refl
+  held_front (suc n) h =
+      let xs = enumerate_from 0 ps in
+      ap (λ k. list_any is_held (take k xs)) (sym (add-one n)) ∙ list_any_more is_held xs n (0, 0) (omega (arith, length-enumerate_from 0 ps))
+      ∙ ap (λ x. list_any is_held (take n xs) || is_held x) (get_or-enumerate_from 0 ps n (0, 0) (omega arith) ∙ ap (λ k. (k, get_or ps n 0)) (zero-add n))
+      ∙ or_comm (list_any is_held (take n xs)) (is_held (n, get_or ps n 0)) ∙ ap (λ x. is_held (n, get_or ps n 0) || x) (held_front n (omega arith))
+
+  pub held_among : (n : ℕ) → length ps ≡ n → list_any is_held (enumerate_from 0 ps) ≡ held_below ps b p n
+  held_among n e =
+      ap (list_any is_held) (sym (take_all n (enumerate_from 0 ps) (omega (arith, length-enumerate_from 0 ps)))) ∙ held_front n (omega arith)
 
   -- a change that is not refused leaves the plan sound
   module _ (eight : length ps ≡ 8) (inside : b < 8) where

@@ -4,19 +4,15 @@ ghost use Rattle.memory.specs.Changes.{refusal_number};
 
 #[derive(Clone, Copy, PartialEq, Eq, Debug)]
 pub enum PlanRefusal {
-    NoBlock,
-    NoPortion,
-    PortionHeld,
+    NoBlock = 1,
+    NoPortion = 2,
+    PortionHeld = 3,
 }
 
 impl PlanRefusal {
     pub fn number(self) -> u8
         ensures { result ≡ refusal_number self }
     {
-        match self {
-            PlanRefusal::NoBlock => 1,
-            PlanRefusal::NoPortion => 2,
-            PlanRefusal::PortionHeld => 3,
-        }
+        self as u8
     }
 }

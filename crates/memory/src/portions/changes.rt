@@ -33,12 +33,10 @@ impl Plan {
     fn held(&self, block: u8, portion: u8) -> bool
         ensures { result ≡ held_below self.now.portions block portion 8 }
     {
-        for i in 0..8usize {
-            if i != block as usize && self.portions[i] == portion {
-                return true;
-            }
-        }
-        false
+        self.portions
+            .iter()
+            .enumerate()
+            .any(|(i, held)| i != block as usize && *held == portion)
     }
 
     pub fn set(&mut self, block: u8, portion: u8) -> Result<(), PlanRefusal>
@@ -66,10 +64,7 @@ impl Plan {
         if first > 7 || second > 7 {
             return Err(PlanRefusal::NoBlock);
         }
-        let x = self.portions[first as usize];
-        let y = self.portions[second as usize];
-        self.portions[first as usize] = y;
-        self.portions[second as usize] = x;
+        self.portions.swap(first as usize, second as usize);
         Ok(())
     }
 }

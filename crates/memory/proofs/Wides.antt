@@ -1,43 +1,19 @@
 -- Memory in 32-bit words. Assumes nothing.
-use Rattle.std.proofs.Common.{◌≡◌, ℕ, zero, suc, ◌+◌, ◌*◌, ◌/◌, ◌%◌, ◌<◌, ◌≤◌, true, false, cond, eqb, leb, ◌≢◌, List, [], ◌∷◌, map, length, get_or, take, drop, set, sym, refl, ap, ◌∙◌, inl, inr, arith}
+use Rattle.std.proofs.Common.{◌≡◌, ℕ, zero, suc, ◌+◌, ◌*◌, ◌/◌, ◌%◌, ◌<◌, ◌≤◌, true, false, cond, eqb, leb, ◌≢◌, List, [], ◌∷◌, map, length, get_or, take, set, sym, refl, ap, ◌∙◌, inl, inr, arith}
 use mathlib.Core.Path.{fun_ext}
 use Rattle.std.specs.List.{range_with_len}
 use Rattle.std.proofs.lemmas.List.FromFn.{get_or-map-range_with_len}
-use Rattle.std.proofs.lemmas.List.{get_or-set_same, get_or-set_other, length-set, ext_get_or, at_drop_more, at_drop_all}
-use Rattle.std.proofs.lemmas.Bool.{cases_eq, cases_order, cond-true, cond-false, le-leb, lt-leb, eq-eqb, ne_eqb, or_left, or_right}
-use Rattle.std.proofs.lemmas.Bool.Decides.{leb_tells, eqb_tells}
+use Rattle.std.proofs.lemmas.List.{get_or-set_same, get_or-set_other, length-set, ext_get_or}
+use Rattle.std.proofs.lemmas.List.Sums.{prefix_len_passes}
+use Rattle.std.proofs.lemmas.Bool.{cases_eq, cases_order, cond-true, leb-true, eq-eqb, ne_eqb, or_left, or_right}
+use Rattle.std.proofs.lemmas.Bool.Decides.{eqb_tells}
 use Rattle.memory.specs.Plans.{Apart}
 use Rattle.memory.specs.Sizes.{length_adapted, lead_le}
 use Rattle.memory.specs.Wide.{lead, place, half, merged, adapted, among, unreached}
 
--- ---- the leading portions, by a loop
-
-module _ (ps : List ℕ) (n i : ℕ) (inside : i < length ps) (far : lead ps n ≡ i + lead (drop i ps) n) where
-  step : lead (drop i ps) n ≡ cond (leb (4096 * (get_or ps i 0 + 1)) n) (suc (lead (drop (i + 1) ps) n)) 0
-  step = at_drop_more (λ qs. lead qs n) ps i 0 inside
-
-  pub lead_stop : n < 4096 * (get_or ps i 0 + 1) → i ≡ lead ps n
-  lead_stop h = omega (arith, step ∙ cond-false _ _ _ (lt-leb (4096 * (get_or ps i 0 + 1)) n h))
-
-  pub lead_more : 4096 * (get_or ps i 0 + 1) ≤ n → lead ps n ≡ (i + 1) + lead (drop (i + 1) ps) n
-  lead_more h = omega (arith, step ∙ cond-true _ _ _ (le-leb (4096 * (get_or ps i 0 + 1)) n h))
-
-pub lead_all : (ps : List ℕ) (n i : ℕ) → length ps ≤ i → lead ps n ≡ i + lead (drop i ps) n → i ≡ lead ps n
-lead_all ps n i h far = omega (arith, at_drop_all (λ qs. lead qs n) ps i h)
-
 -- each leading portion lies in the words
 pub lead_fits : (ps : List ℕ) (n b : ℕ) → b < lead ps n → 4096 * (get_or ps b 0 + 1) ≤ n
-lead_fits [] n b h = absurd (omega arith)
-lead_fits (p ∷ ps) n zero h =
-    elim (leb_tells (4096 * (p + 1)) n) [
-      | inl t ↦ t.1
-      | inr f ↦ absurd (omega (arith, cond-false (leb (4096 * (p + 1)) n) (suc (lead ps n)) 0 f.0))
-    ]
-lead_fits (p ∷ ps) n (suc b) h =
-    elim (leb_tells (4096 * (p + 1)) n) [
-      | inl t ↦ lead_fits ps n b (omega (arith, cond-true (leb (4096 * (p + 1)) n) (suc (lead ps n)) 0 t.0))
-      | inr f ↦ absurd (omega (arith, cond-false (leb (4096 * (p + 1)) n) (suc (lead ps n)) 0 f.0))
-    ]
+lead_fits ps n b h = leb-true _ n (prefix_len_passes (λ p. leb (4096 * (p + 1)) n) ps b 0 h)
 
 -- ---- the place of an address
 

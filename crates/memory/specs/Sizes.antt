@@ -1,7 +1,8 @@
 -- What every memory owes of its size, and that those of this crate have it. Assumes nothing.
-use Rattle.std.specs.Prelude.{◌≡◌, ℕ, suc, ◌+◌, ◌*◌, ◌%◌, ◌≤◌, true, false, cond, List, [], ◌∷◌, ◌++◌, length, nat_le, slice_index}
+use Rattle.std.specs.Prelude.{◌≡◌, ℕ, ◌+◌, ◌*◌, ◌%◌, ◌≤◌, List, ◌++◌, length, nat_le, slice_index}
 use Rattle.std.proofs.Common.{arith, length-take, length-append}
 use Rattle.std.proofs.lemmas.List.FromFn.{length-map-range_with_len}
+use Rattle.std.proofs.lemmas.List.Sums.{prefix_len-le-length}
 use Rattle.memory.specs.Wide.{lead, adapted, half, place}
 use Rattle.memory.specs.Words.{whole, front, joint}
 
@@ -26,8 +27,7 @@ joint_sized xs ys p q = record {
 
 -- there are no more leading portions than portions
 pub lead_le : (ps : List ℕ) (n : ℕ) → lead ps n ≤ length ps
-lead_le [] n = omega arith
-lead_le (p ∷ ps) n = elim (nat_le (4096 * (p + 1)) n) as (λ b. cond b (suc (lead ps n)) 0 ≤ suc (length ps)) [ true ↦ omega (arith, lead_le ps n) | false ↦ omega arith ]
+lead_le ps n = prefix_len-le-length (λ p. nat_le (4096 * (p + 1)) n) ps
 
 -- the size of adaptor memory, by its leading portions
 pub length_adapted : (ps ws : List ℕ) → length (adapted ps ws) ≡ 8192 * lead ps (length ws)

@@ -1,11 +1,10 @@
 -- Memory in 32-bit words, two 16-bit words to each, by a plan's portions. Assumes nothing.
-use Rattle.std.specs.Prelude.{ℕ, suc, ◌+◌, ◌*◌, ◌/◌, ◌%◌, Bool, false, cond, ◌||◌, List, [], ◌∷◌, map, length, take, ◌==◌, nat_le, slice_index}
-use Rattle.std.specs.List.{range_with_len}
+use Rattle.std.specs.Prelude.{ℕ, ◌+◌, ◌*◌, ◌/◌, ◌%◌, Bool, false, cond, ◌||◌, List, [], ◌∷◌, map, length, take, ◌==◌, nat_le, slice_index}
+use Rattle.std.specs.List.{prefix_len, range_with_len}
 
 -- how many portions of 4096 words lie wholly in n words, from the first on
 abbrev pub lead : List ℕ → ℕ → ℕ
-lead [] n = 0
-lead (p ∷ ps) n = cond (nat_le (4096 * (p + 1)) n) (suc (lead ps n)) 0
+lead ps n = prefix_len (λ p. nat_le (4096 * (p + 1)) n) ps
 
 -- the 32-bit word that an address lies in
 abbrev pub place : List ℕ → ℕ → ℕ

@@ -24,12 +24,10 @@ pub struct Adaptor<'a, 'b> {
 fn leading(plan: &Plan, len: usize) -> u32
     ensures { result ≡ lead plan.now.portions len }
 {
-    for b in 0..8u8 {
-        if PORTION * (plan.portion(b) as usize + 1) > len {
-            return b as u32;
-        }
-    }
-    8
+    plan.portions()
+        .iter()
+        .take_while(|portion| PORTION * (**portion as usize + 1) <= len)
+        .count() as u32
 }
 
 // Which 32-bit word an address lies in.

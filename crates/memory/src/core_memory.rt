@@ -14,13 +14,6 @@ pub struct Core<'a> {
     words: &'a mut [u16],
 }
 
-// How many words are memory: whole blocks, eight at most, since an address has 16 bits.
-fn whole_blocks(len: usize) -> u32
-    ensures { result ≡ whole len }
-{
-    (BLOCK * (len / BLOCK).min(8)) as u32
-}
-
 impl<'a> Core<'a> {
     pub fn new(words: &'a mut [u16]) -> Core<'a>
         ensures value { result.words.now ≡ words.old }
@@ -36,6 +29,13 @@ impl<'a> Core<'a> {
         let Core { words } = self;
         words
     }
+
+    // The words that are memory: whole blocks, eight at most, since an address has 16 bits.
+    fn front(&self) -> &[u16]
+        ensures { result.now ≡ front self.now.words.now }
+    {
+        &self.words[..BLOCK * (self.words.len() / BLOCK).min(8)]
+    }
 }
 
 impl Memory for Core<'_> {
@@ -46,15 +46,11 @@ impl Memory for Core<'_> {
     ghost outer = { λ m. outer_row m.words };
 
     fn size(&self) -> u32 {
-        whole_blocks(self.words.len())
+        self.front().len() as u32
     }
 
     fn fetch(&mut self, address: u16) -> Option<u16> {
-        if (address as u32) < self.size() {
-            Some(self.words[address as usize])
-        } else {
-            None
-        }
+        self.front().get(address as usize).copied()
     }
 
     fn store(&mut self, address: u16, word: u16) {

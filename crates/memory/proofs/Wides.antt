@@ -1,11 +1,12 @@
 -- Memory in 32-bit words. Assumes nothing.
-use Rattle.std.proofs.Common.{◌≡◌, ℕ, zero, suc, ◌+◌, ◌*◌, ◌/◌, ◌%◌, ◌<◌, ◌≤◌, true, false, cond, eqb, leb, ◌≢◌, List, [], ◌∷◌, map, length, get_or, take, set, sym, refl, ap, ◌∙◌, inl, inr, arith}
+use Rattle.std.proofs.Common.{◌≡◌, ℕ, ◌+◌, ◌*◌, ◌/◌, ◌%◌, ◌<◌, ◌≤◌, true, false, cond, eqb, leb, ◌≢◌, List, map, length, get_or, take, set, sym, ap, ◌∙◌, inl, inr, arith}
 use mathlib.Core.Path.{fun_ext}
 use Rattle.std.specs.List.{range_with_len}
 use Rattle.std.proofs.lemmas.List.FromFn.{get_or-map-range_with_len}
-use Rattle.std.proofs.lemmas.List.{get_or-set_same, get_or-set_other, length-set, ext_get_or}
+use Rattle.std.proofs.lemmas.List.{get_or-set_same, get_or-set_other, length-set, length-take, get_or-take, ext_get_or}
+use Rattle.std.proofs.lemmas.List.Folds.{list_any_at}
 use Rattle.std.proofs.lemmas.List.Sums.{prefix_len_passes}
-use Rattle.std.proofs.lemmas.Bool.{cases_eq, cases_order, cond-true, leb-true, eq-eqb, ne_eqb, or_left, or_right}
+use Rattle.std.proofs.lemmas.Bool.{cases_eq, cases_order, cond-true, leb-true, eq-eqb, ne_eqb}
 use Rattle.std.proofs.lemmas.Bool.Decides.{eqb_tells}
 use Rattle.memory.specs.Plans.{Apart}
 use Rattle.memory.specs.Sizes.{length_adapted, lead_le}
@@ -92,10 +93,9 @@ module _ (ps ws : List ℕ) (at w : ℕ) (eight : length ps ≡ 8) (apart : Apar
 -- ---- what stays
 
 among_take : (qs : List ℕ) (b n : ℕ) → b < n → b < length qs → among (get_or qs b 0) (take n qs) ≡ true
-among_take [] b n h k = absurd (omega arith)
-among_take (q ∷ qs) b zero h k = absurd (omega arith)
-among_take (q ∷ qs) zero (suc n) h k = or_left _ _ (eq-eqb q q refl)
-among_take (q ∷ qs) (suc b) (suc n) h k = or_right _ _ (among_take qs b n (omega arith) (omega arith))
+among_take qs b n h k =
+    let p = get_or qs b 0 in
+    list_any_at (λ q. eqb p q) (take n qs) b 0 (omega (arith, length-take n qs)) (eq-eqb p (get_or (take n qs) b 0) (sym (get_or-take n qs b 0 h)))
 
 pub unreached_set : (ps ws : List ℕ) (at x : ℕ) → at < length (adapted ps ws) → unreached ps (set ws (place ps at) x) ≡ unreached ps ws
 unfolding unreached

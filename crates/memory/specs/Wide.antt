@@ -1,6 +1,6 @@
 -- Memory in 32-bit words, two 16-bit words to each, by a plan's portions. Assumes nothing.
-use Rattle.std.specs.Prelude.{ℕ, ◌+◌, ◌*◌, ◌/◌, ◌%◌, Bool, false, cond, ◌||◌, List, [], ◌∷◌, map, length, take, ◌==◌, nat_le, slice_index}
-use Rattle.std.specs.List.{prefix_len, range_with_len}
+use Rattle.std.specs.Prelude.{ℕ, ◌+◌, ◌*◌, ◌/◌, ◌%◌, Bool, cond, List, map, length, take, ◌==◌, nat_le, slice_index}
+use Rattle.std.specs.List.{list_any, prefix_len, range_with_len}
 
 -- how many portions of 4096 words lie wholly in n words, from the first on
 abbrev pub lead : List ℕ → ℕ → ℕ
@@ -24,8 +24,7 @@ adapted ps ws = map (λ at. half (slice_index ws (place ps at)) at) (range_with_
 
 -- whether p is among some portions
 abbrev pub among : ℕ → List ℕ → Bool
-among p [] = false
-among p (q ∷ qs) = p == q || among p qs
+among p qs = list_any (λ q. p == q) qs
 
 -- the 32-bit words, with 0 for each that the memory reaches
 unfoldable pub unreached : List ℕ → List ℕ → List ℕ

@@ -1,7 +1,6 @@
 -- Worked cases of memory: sizes, and the plan of adaptor memory.
-use Rattle.std.specs.Prelude.{◌≡◌, ℕ, ◌+◌, ◌*◌, List, [], ◌∷◌, map, Ok, Err, slice_set}
+use Rattle.std.specs.Prelude.{◌≡◌, ℕ, ◌+◌, ◌*◌, List, [], ◌∷◌, map, Some, None, Ok, Err, slice_set}
 use Rattle.std.specs.List.{range_with_len}
-use Rattle.memory.specs.declared.Fetched.TheVariants.{Word, Absent}
 use Rattle.memory.specs.declared.refusals.PlanRefusal.TheVariants.{NoBlock, NoPortion, PortionHeld}
 use Rattle.memory.specs.Changes.{exchange_after, exchange_answer, refusal_number, set_after, set_answer}
 use Rattle.memory.specs.Fetches.{fetched_at}
@@ -42,5 +41,5 @@ pub record Plans : Type 0 where
   -- whole blocks of 8192 words, eight at most
   pub blocks : map whole (8191 ∷ 8192 ∷ 20000 ∷ 65536 ∷ 100000 ∷ []) ≡ 0 ∷ 8192 ∷ 16384 ∷ 65536 ∷ 65536 ∷ []
   -- a word below the size is there, and one at the size is absent
-  pub there : fetched_at (5 ∷ 6 ∷ []) 1 ≡ Word 6
-  pub absent : fetched_at (5 ∷ 6 ∷ []) 2 ≡ Absent
+  pub there : fetched_at (5 ∷ 6 ∷ []) 1 ≡ Some 6
+  pub absent : fetched_at (5 ∷ 6 ∷ []) 2 ≡ None

@@ -1,74 +1,29 @@
 -- The parts of a step, in the terms of the code.
-use Rattle.std.proofs.Common.{◌≡◌, ℕ, ◌+◌, Bool, true, false, cond, not, ◌&&◌, ltb, ◌⊎◌, List, length, get_or, set, Some, None, Option, sym, refl, ap, ◌∙◌, inl, inr, arith}
-use Rattle.std.proofs.lemmas.List.{get_or_past}
-use Rattle.std.proofs.lemmas.Bool.{ltb-false}
-use Rattle.memory.specs.declared.Fetched.TheVariants.{Word, Absent}
+use Rattle.std.proofs.Common.{◌≡◌, ℕ, Bool, true, not, ◌&&◌, ◌⊎◌, List, Some, None, Option, sym, refl, ap, ◌∙◌, inl, inr}
 use Rattle.machine.specs.declared.call.Outcome.{Outcome}
 use Rattle.machine.specs.declared.call.Outcome.TheVariants.{Entered, Idle}
 use Rattle.machine.specs.declared.instruction.Instruction.{Instruction}
 use Rattle.machine.specs.declared.state.Mark.{Mark}
 use Rattle.machine.specs.declared.state.Mark.TheVariants.{Unset, Wait, Exit}
 use Rattle.machine.specs.declared.state.Violation.{Violation}
-use Rattle.machine.specs.declared.state.State.{State}
 use Rattle.machine.specs.Decode.{address, decoded, relative}
 use Rattle.machine.specs.State.{Cpu, Machine}
-use Rattle.machine.specs.Step.{Moment, act, at_fetch, by_entry, by_fetch, by_judgement, by_mark, carried, class, due, enter, enter_cpu, entry_of, exits, fetch_cpu, fetched, index, instruction, judge, leave_cpu, status, step}
-use Rattle.machine.specs.View.{cpu_of, machine_of}
-use Rattle.machine.specs.Words.{read, word}
+use Rattle.machine.specs.Step.{Moment, act, at_fetch, by_entry, by_fetch, by_judgement, by_mark, class, due, enter, exits, fetch_cpu, fetched, instruction, judge, step}
+use Rattle.machine.specs.Words.{read}
 use Rattle.isolation.specs.Isolation.{Confined}
 use Rattle.isolation.proofs.Theorem.{step_confined}
 
--- an absent word reads as 0
-pub absent_reads : (ws : List ℕ) (a : ℕ) → Absent ≡ cond (ltb a (length ws)) (Word (get_or ws a 0)) Absent → 0 ≡ read ws a
-absent_reads ws a e = by (ltb a (length ws)) refl
-  where
-    by : (b : Bool) → ltb a (length ws) ≡ b → 0 ≡ read ws a
-    by true f = absurd (let g : Absent ≡ Word (get_or ws a 0) = rw f at e in let z : ◌≡◌ {A = ℕ} 0 1 = cc in omega arith)
-    by false f = sym (get_or_past ws a 0 (ltb-false a (length ws) f))
-
-pub entered : (k : ℕ) (m : Machine) (cell first p : ℕ) (s t : State) (ws xs ys : List ℕ)
-    → cell ≡ entry_of k m.words → cpu_of s ≡ m.cpu → ws ≡ m.words → first ≡ status (cpu_of s) → p ≡ s.work.p
-    → xs ≡ set ws cell first → ys ≡ set xs (word (cell + 1)) p → cpu_of t ≡ enter_cpu k cell (cpu_of s)
-    → machine_of t ys ≡ enter k m
-entered k m cell first p s t ws xs ys a b c d e f g h =
-    let q : p ≡ m.cpu.work.p = e ∙ ap (λ (x : Cpu). x.work.p) b in
-    let words : ys ≡ set (set m.words (entry_of k m.words) (status m.cpu)) (word (entry_of k m.words + 1)) m.cpu.work.p =
-    g ∙ ap (λ l. set l (word (cell + 1)) p) (f ∙ ap (λ l. set l cell first) c ∙ ap (set m.words cell) (d ∙ ap status b))
-    ∙ ap (set (set m.words cell (status m.cpu)) (word (cell + 1))) q
-    ∙ ap (λ n. set (set m.words n (status m.cpu)) (word (n + 1)) m.cpu.work.p) a in
-    let cpu : cpu_of t ≡ enter_cpu k (entry_of k m.words) m.cpu = h ∙ ap (enter_cpu k cell) b ∙ ap (λ n. enter_cpu k n m.cpu) a in
-    λ i. record { cpu = cpu i; words = words i }
-
-pub decodes : (m : Machine) (w ea t : ℕ) (x : Instruction) → w ≡ read m.words m.cpu.work.p
-    → ea ≡ address m.cpu.work.p m.cpu.work m.words w → t ≡ relative m.cpu.work.p w → x ≡ decoded w ea t → x ≡ instruction m
-unfolding instruction
-decodes m w ea t x a b c d =
-    let i = m.cpu.work.p in
-    let at : ℕ → ℕ = λ z. address i m.cpu.work m.words z in
-    d ∙ ap (λ z. decoded w z t) b ∙ ap (decoded w (at w)) c ∙ ap (λ z. decoded z (at z) (relative i z)) a
-
-pub exited : (m : Machine) (a x p : ℕ) (s t : State) (ws : List ℕ) → x ≡ read m.words a → p ≡ read m.words (word (a + 1)) → cpu_of s ≡ m.cpu → ws ≡ m.words
-    → cpu_of t ≡ leave_cpu x p (cpu_of s) → machine_of t ws ≡ index true a m
-exited m a x p s t ws e f g h l =
-    let cpu : cpu_of t ≡ leave_cpu (read m.words a) (read m.words (word (a + 1))) m.cpu =
-    l ∙ ap (leave_cpu x p) g ∙ ap (λ z. leave_cpu z p m.cpu) e ∙ ap (λ z. leave_cpu (read m.words a) z m.cpu) f in
-    λ i. record { cpu = cpu i; words = h i }
-
 -- an instruction that is not judged a violation is carried out
-pub instructed : (m n : Machine) (pp b : Bool) (x : Instruction) (v : Option Violation) (o : Outcome) (s t : Cpu) (ws : List ℕ)
-    → x ≡ instruction m → s ≡ m.cpu → ws ≡ m.words
-    → v ≡ judge (s.switch && not pp) s.guard.protection s.work.p (class x) → v ≡ None
-    → b ≡ exits s.mark pp → t ≡ fetch_cpu pp s → n ≡ act b x (record { cpu = t; words = ws }) → o ≡ carried (class x)
-    → (o ≡ (by_fetch (Some pp) m).outcome) × (n ≡ (by_fetch (Some pp) m).after)
-instructed m n pp b x v o s t ws ex es ew ev en eb et ea eo =
+pub instructed : (m n : Machine) (pp b : Bool) (x : Instruction) (v : Option Violation) (t : Cpu) (ws : List ℕ)
+    → let w : ℕ = read m.words m.cpu.work.p in x ≡ decoded w (address m.cpu.work.p m.cpu.work m.words w) (relative m.cpu.work.p w) → ws ≡ m.words
+    → v ≡ judge (m.cpu.switch && not pp) m.cpu.guard.protection m.cpu.work.p (class x) → v ≡ None
+    → b ≡ exits m.cpu.mark pp → t ≡ fetch_cpu pp m.cpu → n ≡ act b x (record { cpu = t; words = ws }) → n ≡ (by_fetch (Some pp) m).after
+unfolding instruction
+instructed m n pp b x v t ws ex ew ev en eb et ea =
     let judged : None ≡ judge (m.cpu.switch && not pp) m.cpu.guard.protection m.cpu.work.p (class (instruction m)) =
-    sym en ∙ ev ∙ ap (λ (c : Cpu). judge (c.switch && not pp) c.guard.protection c.work.p (class x)) es
-    ∙ ap (λ y. judge (m.cpu.switch && not pp) m.cpu.guard.protection m.cpu.work.p (class y)) ex in
-    let bits : b ≡ exits m.cpu.mark pp = eb ∙ ap (λ (c : Cpu). exits c.mark pp) es in
-    let machine : ◌≡◌ {A = Machine} (record { cpu = t; words = ws }) (fetched pp m) = λ i. record { cpu = (et ∙ ap (fetch_cpu pp) es) i; words = ew i } in (
-      eo ∙ ap (λ y. carried (class y)) ex ∙ ap (λ j. (by_judgement j pp m).outcome) judged,
-      ea ∙ ap (act b x) machine ∙ ap (λ c. act c x (fetched pp m)) bits ∙ ap (λ y. act (exits m.cpu.mark pp) y (fetched pp m)) ex ∙ ap (λ j. (by_judgement j pp m).after) judged,
-    )
+    sym en ∙ ev ∙ ap (λ y. judge (m.cpu.switch && not pp) m.cpu.guard.protection m.cpu.work.p (class y)) ex in
+    let machine : ◌≡◌ {A = Machine} (record { cpu = t; words = ws }) (fetched pp m) = λ i. record { cpu = et i; words = ew i } in
+    ea ∙ ap (act b x) machine ∙ ap (λ c. act c x (fetched pp m)) eb ∙ ap (λ y. act (exits m.cpu.mark pp) y (fetched pp m)) ex ∙ ap (λ j. (by_judgement j pp m).after) judged
 
 -- a step by the way that the code takes
 pub at_entry : (m : Machine) (o : Option ℕ) → o ≡ due m.cpu.mark m.cpu.guard → by_entry o m ≡ step m

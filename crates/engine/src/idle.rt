@@ -29,12 +29,10 @@ impl<M: Memory> Processor<Idle, M> {
         ensures { result ≡ self.memory }
     {
         let Processor {
-            state,
+            state: _,
             memory,
-            mode,
+            mode: Idle,
         } = self;
-        drop(state);
-        drop(mode);
         memory
     }
 
@@ -75,19 +73,10 @@ impl<M: Memory> Processor<Idle, M> {
         ensures memory { result.memory ≡ self.memory }
         ensures isolated { protect ≡ true → Isolated (seen M.words result) }
     {
-        let Processor {
-            mut state,
-            memory,
-            mode,
-        } = self;
-        drop(mode);
-        state.pp = true;
-        state.last = 0;
-        state.switch = protect;
-        Processor {
-            state,
-            memory,
-            mode: Running,
-        }
+        let mut running = self.with_mode(Running);
+        running.state.pp = true;
+        running.state.last = 0;
+        running.state.switch = protect;
+        running
     }
 }

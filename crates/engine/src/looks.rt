@@ -7,7 +7,7 @@ ghost use Rattle.machine.specs.Calls.{word_answer};
 
 use crate::processor::Processor;
 use machine::{Refusal, Violation};
-use memory::{Fetched, Memory};
+use memory::Memory;
 
 impl<K, M: Memory> Processor<K, M> {
     /// Registers 0 to 7; Z is 0.
@@ -37,9 +37,6 @@ impl<K, M: Memory> Processor<K, M> {
         ensures same { seen M.words self.new ≡ seen M.words self.old }
         ensures outside { M.outer self.new.memory ≡ M.outer self.old.memory }
     {
-        match self.memory.fetch(address) {
-            Fetched::Word(word) => Ok(word),
-            Fetched::Absent => Err(Refusal::NoAddress),
-        }
+        self.memory.fetch(address).ok_or(Refusal::NoAddress)
     }
 }

@@ -1,4 +1,6 @@
 //! The processor, by its state.
+ghost use Rattle.std.specs.Prelude.{◌≡◌};
+
 use machine::State;
 
 /// The state of a processor that takes deposits and images.
@@ -19,4 +21,22 @@ pub struct Processor<K, M> {
     pub(crate) state: State,
     pub(crate) memory: M,
     pub(crate) mode: K,
+}
+
+impl<K: Drop, M> Processor<K, M> {
+    // The same processor in another state.
+    pub(crate) fn with_mode<L>(self, mode: L) -> Processor<L, M>
+        ensures { result ≡ record { state = self.state; memory = self.memory; mode = mode } }
+    {
+        let Processor {
+            state,
+            memory,
+            mode: _,
+        } = self;
+        Processor {
+            state,
+            memory,
+            mode,
+        }
+    }
 }

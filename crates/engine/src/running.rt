@@ -2,7 +2,7 @@
 ghost use Rattle.std.specs.Prelude.{◌≡◌, true, IfOk};
 ghost use Rattle.isolation.specs.Isolation.{Confined};
 ghost use Rattle.isolation.specs.Steps.{Each};
-ghost use Rattle.machine.specs.Calls.{Room, after_call, after_calls, answer as answered, run_answer, run_trail, signal_answer, tallied, total};
+ghost use Rattle.machine.specs.Calls.{Room, after_call, after_calls, answer as answered, as_answer, run_answer, run_trail, signal_answer, tallied, total};
 ghost use Rattle.engine.specs.View.{seen};
 
 use crate::processor::{Idle, Live, Processor, Running};
@@ -45,7 +45,7 @@ impl<K: Live, M: Memory> Processor<K, M> {
             entries: 0,
             idles: 0,
         };
-        for i in 0..steps {
+        for _ in 0..steps {
             let outcome = self.step();
             tally(&mut counts, outcome);
         }
@@ -72,30 +72,30 @@ impl<K: Live, M: Memory> Processor<K, M> {
         Ok(signalled)
     }
 
+    // Makes a call; a refusal ends it.
+    fn carry_out(&mut self, call: Call) -> Result<Answer, Refusal>
+        ensures answer { as_answer (λ x. x) result ≡ answered call (seen M.words self.old) }
+        ensures after { seen M.words self.new ≡ after_call call (seen M.words self.old) }
+        ensures outside { M.outer self.new.memory ≡ M.outer self.old.memory }
+    {
+        Ok(match call {
+            Call::Step => Answer::Stepped(self.step()),
+            Call::Run(steps) => Answer::Ran(self.run(steps)?),
+            Call::Signal(level) => Answer::Signalled(self.signal(level)?),
+            Call::Registers => Answer::Registers(self.registers()),
+            Call::Protection => Answer::Protection(self.protection()),
+            Call::Violation => Answer::Violation(self.violation()),
+            Call::Word(address) => Answer::Word(self.word(address)?),
+        })
+    }
+
     /// Makes a call, and answers as the call itself does.
     pub fn perform(&mut self, call: Call) -> Answer
         ensures answer { result ≡ answered call (seen M.words self.old) }
         ensures after { seen M.words self.new ≡ after_call call (seen M.words self.old) }
         ensures outside { M.outer self.new.memory ≡ M.outer self.old.memory }
     {
-        match call {
-            Call::Step => Answer::Stepped(self.step()),
-            Call::Run(steps) => match self.run(steps) {
-                Ok(counts) => Answer::Ran(counts),
-                Err(refusal) => Answer::Refused(refusal),
-            },
-            Call::Signal(level) => match self.signal(level) {
-                Ok(signalled) => Answer::Signalled(signalled),
-                Err(refusal) => Answer::Refused(refusal),
-            },
-            Call::Registers => Answer::Registers(self.registers()),
-            Call::Protection => Answer::Protection(self.protection()),
-            Call::Violation => Answer::Violation(self.violation()),
-            Call::Word(address) => match self.word(address) {
-                Ok(word) => Answer::Word(word),
-                Err(refusal) => Answer::Refused(refusal),
-            },
-        }
+        self.carry_out(call).unwrap_or_else(Answer::Refused)
     }
 
     /// Makes calls in their order.
@@ -115,16 +115,6 @@ impl<M: Memory> Processor<Running, M> {
         ensures after { seen M.words result ≡ seen M.words self }
         ensures memory { result.memory ≡ self.memory }
     {
-        let Processor {
-            state,
-            memory,
-            mode,
-        } = self;
-        drop(mode);
-        Processor {
-            state,
-            memory,
-            mode: Idle,
-        }
+        self.with_mode(Idle)
     }
 }

@@ -1,7 +1,7 @@
 //! One step.
 ghost use Rattle.std.specs.Prelude.{◌≡◌, true, Some};
-ghost use Rattle.machine.specs.Decode.{address as addressed, relative};
-ghost use Rattle.machine.specs.Step.{act, at_fetch, by_fetch, enter, index, instruction, step as stepped};
+ghost use Rattle.machine.specs.Decode.{address as addressed, decoded, relative};
+ghost use Rattle.machine.specs.Step.{act, at_fetch, by_fetch, enter, index, step as stepped};
 ghost use Rattle.machine.specs.Words.{read as word_at};
 ghost use Rattle.isolation.specs.Isolation.{Confined};
 ghost use Rattle.engine.specs.View.{seen};
@@ -9,77 +9,22 @@ ghost use Rattle.engine.specs.View.{seen};
 use crate::processor::{Live, Processor};
 use levels::bit_of;
 use machine::{
-    Instruction, Mark, Outcome, Violation, ViolationKind, add, addresses, decode, subtract,
+    Instruction, Mark, Outcome, Violation, ViolationKind, Work, add, addresses, decode, subtract,
 };
-use memory::{Fetched, Memory};
+use memory::Memory;
 
 impl<K: Live, M: Memory> Processor<K, M> {
-    // What an address reads: 0 where the word is absent.
-    fn read(&mut self, address: u16) -> u16
-        ensures answer { result ≡ word_at (M.words self.old.memory) address }
-        ensures state { self.new.state ≡ self.old.state }
-        ensures same { M.words self.new.memory ≡ M.words self.old.memory }
-        ensures outside { M.outer self.new.memory ≡ M.outer self.old.memory }
-    {
-        match self.memory.fetch(address) {
-            Fetched::Word(word) => word,
-            Fetched::Absent => 0,
-        }
-    }
-
     // Entry of a level: its cell is read before the status words are stored.
     fn enter(&mut self, number: u8)
         ensures after { seen M.words self.new ≡ enter number (seen M.words self.old) }
         ensures outside { M.outer self.new.memory ≡ M.outer self.old.memory }
     {
-        let cell = self.read(0x0100 + number as u16);
+        let cell = read(&mut self.memory, 0x0100 + number as u16);
         let status = self.state.status();
         let p = self.state.work.p;
         self.memory.store(cell, status);
         self.memory.store(cell.wrapping_add(1), p);
         self.state.enter(number, cell);
-    }
-
-    // The effective address of an instruction word at P, for the codes that have one.
-    fn address(&mut self, word: u16) -> u16
-        ensures answer { result ≡ addressed (seen M.words self.old).cpu.work.p (seen M.words self.old).cpu.work (M.words self.old.memory) word }
-        ensures state { self.new.state ≡ self.old.state }
-        ensures same { M.words self.new.memory ≡ M.words self.old.memory }
-        ensures outside { M.outer self.new.memory ≡ M.outer self.old.memory }
-    {
-        if !addresses(word) {
-            return 0;
-        }
-        let reference = if bit_of(word, 4) {
-            target(self.state.work.p, word)
-        } else if bit_of(word, 7) {
-            (word % 256).wrapping_add(self.state.work.x2)
-        } else {
-            word % 256
-        };
-        let direct = if bit_of(word, 5) {
-            self.read(reference)
-        } else {
-            reference
-        };
-        if bit_of(word, 6) {
-            direct.wrapping_add(self.state.work.x1)
-        } else {
-            direct
-        }
-    }
-
-    // The instruction at P.
-    fn instruction(&mut self) -> Instruction
-        ensures answer { result ≡ instruction (seen M.words self.old) }
-        ensures state { self.new.state ≡ self.old.state }
-        ensures same { M.words self.new.memory ≡ M.words self.old.memory }
-        ensures outside { M.outer self.new.memory ≡ M.outer self.old.memory }
-    {
-        let place = self.state.work.p;
-        let word = self.read(place);
-        let address = self.address(word);
-        decode(word, address, target(place, word))
     }
 
     // Carries an instruction out after its fetch; an LDX exits where `exits`.
@@ -88,14 +33,14 @@ impl<K: Live, M: Memory> Processor<K, M> {
         ensures outside { M.outer self.new.memory ≡ M.outer self.old.memory }
     {
         match instruction {
-            Instruction::Lda(address) => self.state.work.a = self.read(address),
-            Instruction::And(address) => self.state.work.a &= self.read(address),
+            Instruction::Lda(address) => self.state.work.a = read(&mut self.memory, address),
+            Instruction::And(address) => self.state.work.a &= read(&mut self.memory, address),
             Instruction::Add(address) => {
-                let sum = add(self.state.work.a, self.read(address), false);
+                let sum = add(self.state.work.a, read(&mut self.memory, address), false);
                 self.state.work.settle(sum);
             }
             Instruction::Sub(address) => {
-                let sum = subtract(self.state.work.a, self.read(address));
+                let sum = subtract(self.state.work.a, read(&mut self.memory, address));
                 self.state.work.settle(sum);
             }
             Instruction::Ldx(address) => self.index(exits, address),
@@ -104,7 +49,7 @@ impl<K: Live, M: Memory> Processor<K, M> {
                 self.memory.store(address, word);
             }
             Instruction::Im(address) => {
-                let sum = add(self.read(address), 1, false);
+                let sum = add(read(&mut self.memory, address), 1, false);
                 self.state.work.flag(sum);
                 self.memory.store(address, sum.word);
             }
@@ -126,12 +71,13 @@ impl<K: Live, M: Memory> Processor<K, M> {
     }
 
     // Fetches at P, judges the instruction and carries it out, at the PP that the fetch leaves.
+    #[tactic(auto, unfolding(machine::specs::Step::instruction))]
     fn instruct(&mut self, pp: bool) -> Outcome
         ensures answer { result ≡ (by_fetch (Some pp) (seen M.words self.old)).outcome }
         ensures after { seen M.words self.new ≡ (by_fetch (Some pp) (seen M.words self.old)).after }
         ensures outside { M.outer self.new.memory ≡ M.outer self.old.memory }
     {
-        let instruction = self.instruction();
+        let instruction = instruction(&mut self.memory, self.state.work);
         if let Some(found) = self.state.judge(pp, instruction) {
             return self.state.violate(pp, found);
         }
@@ -186,14 +132,62 @@ impl<K: Live, M: Memory> Processor<K, M> {
         ensures after { seen M.words self.new ≡ index exits address (seen M.words self.old) }
         ensures outside { M.outer self.new.memory ≡ M.outer self.old.memory }
     {
-        let first = self.read(address);
+        let first = read(&mut self.memory, address);
         if exits {
-            let second = self.read(address.wrapping_add(1));
+            let second = read(&mut self.memory, address.wrapping_add(1));
             self.state.leave(first, second);
         } else {
             self.state.work.x1 = first;
         }
     }
+}
+
+// What an address reads: 0 where the word is absent.
+fn read<M: Memory>(memory: &mut M, address: u16) -> u16
+    ensures answer { result ≡ word_at (M.words memory.old) address }
+    ensures same { M.words memory.new ≡ M.words memory.old }
+    ensures outside { M.outer memory.new ≡ M.outer memory.old }
+{
+    memory.fetch(address).unwrap_or(0)
+}
+
+// The effective address of an instruction word at P, for the codes that have one.
+fn address<M: Memory>(memory: &mut M, work: Work, word: u16) -> u16
+    ensures answer { result ≡ addressed work.p work (M.words memory.old) word }
+    ensures same { M.words memory.new ≡ M.words memory.old }
+    ensures outside { M.outer memory.new ≡ M.outer memory.old }
+{
+    if !addresses(word) {
+        return 0;
+    }
+    let reference = if bit_of(word, 4) {
+        target(work.p, word)
+    } else if bit_of(word, 7) {
+        (word % 256).wrapping_add(work.x2)
+    } else {
+        word % 256
+    };
+    let direct = if bit_of(word, 5) {
+        read(memory, reference)
+    } else {
+        reference
+    };
+    if bit_of(word, 6) {
+        direct.wrapping_add(work.x1)
+    } else {
+        direct
+    }
+}
+
+// The instruction at P.
+fn instruction<M: Memory>(memory: &mut M, work: Work) -> Instruction
+    ensures answer { let words = M.words memory.old in let word = word_at words work.p in result ≡ decoded word (addressed work.p work words word) (relative work.p word) }
+    ensures same { M.words memory.new ≡ M.words memory.old }
+    ensures outside { M.outer memory.new ≡ M.outer memory.old }
+{
+    let word = read(memory, work.p);
+    let address = address(memory, work, word);
+    decode(word, address, target(work.p, word))
 }
 
 // The place that a word at `place` reaches relative to it.

@@ -3,17 +3,17 @@ use Rattle.engine.specs.View.{seen}
 use Rattle.engine.proofs.Runs.{begin, more, not_run, ran}
 use Rattle.engine.proofs.processor.Processor.run.Goals as goal
 
-pub loop-i-init : goal.loop-i-init
-loop-i-init g c = (begin c.args.steps (seen g.M.Memory.words c.args.self.now), refl)
+pub loop-init : goal.loop-init
+loop-init g c = (begin c.args.steps (seen g.M.Memory.words c.args.self.now), refl)
 
 pub tally-requires : goal.tally-requires
-tally-requires g c = omega (arith, c.loop-i.invariant.0.sum)
+tally-requires g c = omega (arith, c.loop.invariant.0.sum)
 
-pub loop-i-preserved : goal.loop-i-preserved
-loop-i-preserved g c =
+pub loop-preserved : goal.loop-preserved
+loop-preserved g c =
     let s = c.step-outcome.ensures in (
-      more c.args.steps c.loop-i.i _ _ _ c.loop-i.counts _ c.step-outcome.result c.loop-i-test.true c.loop-i.invariant.0 s.answer s.after c.tally.ensures,
-      s.outside ∙ c.loop-i.invariant.1,
+      more c.args.steps c.loop.counter _ _ _ c.loop.counts _ c.step-outcome.result c.loop-test.true c.loop.invariant.0 s.answer s.after c.tally.ensures,
+      s.outside ∙ c.loop.invariant.1,
     )
 
 pub returns-then-steps-gt1000000 : goal.returns-then-steps-gt1000000
@@ -23,6 +23,6 @@ returns-then-steps-gt1000000 g c =
 
 pub returns : goal.returns
 returns g c =
-    let i = c.loop-i.invariant in
-    let e = ran c.args.steps c.loop-i.i (seen g.M.Memory.words c.args.self.now) (seen g.M.Memory.words c.loop-i.self) c.loop-i.counts (omega arith) (omega arith) i.0 in
+    let i = c.loop.invariant in
+    let e = ran c.args.steps c.loop.counter (seen g.M.Memory.words c.args.self.now) (seen g.M.Memory.words c.loop.self) c.loop.counts (omega arith) (omega arith) i.0 in
     record { answer = e.answer; after = e.after; outside = i.1; sum = omega (arith, i.0.sum); confined = e.confined }

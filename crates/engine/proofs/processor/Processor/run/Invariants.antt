@@ -3,7 +3,7 @@ use Rattle.engine.specs.View.{seen}
 use Rattle.engine.proofs.Runs.{HalfRun}
 use Rattle.engine.proofs.processor.Processor.run.Given as goal
 
-abbrev pub invariant-loop-i : goal.invariant-loop-i
-invariant-loop-i g l =
-    HalfRun l.steps l.i (seen g.M.Memory.words l.initial.self) (seen g.M.Memory.words l.self) l.counts
+abbrev pub invariant-loop : goal.invariant-loop
+invariant-loop g l =
+    HalfRun l.steps l.counter (seen g.M.Memory.words l.initial.self) (seen g.M.Memory.words l.self) l.counts
     × (g.M.Memory.outer l.self.memory ≡ g.M.Memory.outer l.initial.self.memory)

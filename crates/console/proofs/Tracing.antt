@@ -5,12 +5,12 @@ use Rattle.std.proofs.lemmas.Bool.{cond-false, le-ltb}
 use Rattle.machine.specs.declared.call.Call.TheVariants.{Signal as SignalCall}
 use Rattle.machine.specs.declared.call.Counts.{Counts}
 use Rattle.machine.specs.declared.call.Outcome.{Outcome}
-use Rattle.machine.specs.declared.call.Outcome.TheVariants.{Entered, Idle, Violated, Stalled, NotCarried, Done}
 use Rattle.machine.specs.declared.call.Signalled.{Signalled}
 use Rattle.machine.specs.declared.refusal.Refusal.{Refusal}
 use Rattle.machine.specs.Calls.{after_call, gone, signal_answer, tallied, total}
 use Rattle.machine.specs.State.{Machine, registers}
 use Rattle.machine.specs.Step.{step}
+use Rattle.machine.proofs.Tallies.{total_tallied}
 use Rattle.image.specs.Reading.{verdict}
 use Rattle.listing.specs.Listing.{line}
 use Rattle.console.specs.declared.traces.Signal.{Signal}
@@ -54,21 +54,13 @@ signals_count n (s ∷ ss) x = signals_count n ss (signal_if (eqb s.step n) s.le
     one false = refl
 
 -- a step: the registers rs before it, qs after it, and what it was
-pub step_made : (n : ℕ) (t v u a : List ℕ) (b c d : Counts) (m k : Machine) (o : Outcome) (rs qs : List ℕ) → v ≡ t → u ≡ v ++ line a → a ≡ step_line n o rs qs
+pub step_made : (n : ℕ) (t u a : List ℕ) (b c d : Counts) (m k : Machine) (o : Outcome) (rs qs : List ℕ) → u ≡ t ++ line a → a ≡ step_line n o rs qs
     → rs ≡ registers m.cpu.work → o ≡ (step m).outcome → k ≡ (step m).after → qs ≡ registers k.cpu.work → c ≡ tallied o b → d ≡ c
     → ◌≡◌ {A = Traced} (record { text = u; counts = d; machine = k }) (step_at n (record { text = t; counts = b; machine = m }))
-step_made n t v u a b c d m k o rs qs kept says is first was moves last counted same =
+step_made n t u a b c d m k o rs qs says is first was moves last counted same =
     let l : a ≡ step_line n (step m).outcome (registers m.cpu.work) (registers (step m).after.cpu.work) =
     is ∙ (λ i. step_line n (was i) (first i) ((last ∙ ap (λ y. registers y.cpu.work) moves) i)) in
-    so_far u _ d _ k _ (says ∙ (λ i. kept i ++ line (l i))) (same ∙ counted ∙ ap (λ y. tallied y b) was) moves
-
-total_tallied : (o : Outcome) (n : Counts) → total (tallied o n) ≡ total n + 1
-total_tallied (Entered k) n = omega arith
-total_tallied Idle n = omega arith
-total_tallied (Violated x) n = omega arith
-total_tallied (Stalled x) n = omega arith
-total_tallied NotCarried n = omega arith
-total_tallied Done n = omega arith
+    so_far u _ d _ k _ (says ∙ ap (λ z. t ++ line z) l) (same ∙ counted ∙ ap (λ y. tallied y b) was) moves
 
 -- i of n steps have been made
 pub record Half (n i : ℕ) (ss : List Signal) (start x : Traced) : Type 0 where

@@ -1,6 +1,6 @@
 //! A trace of an image.
 ghost use Rattle.std.specs.Prelude.{◌≡◌, [], ◌++◌, IfOk, string_bytes, OnOk, ◌==◌};
-ghost use Rattle.machine.specs.Calls.{Room, no_counts, tallied};
+ghost use Rattle.machine.specs.Calls.{Room, no_counts};
 ghost use Rattle.engine.specs.View.{seen};
 ghost use Rattle.listing.specs.Listing.{line as ended_line};
 ghost use Rattle.console.specs.Traces.{at, signal_if, signals_at, step_at, trace_of, trace_text};
@@ -8,7 +8,7 @@ ghost use Rattle.console.specs.Traces.{at, signal_if, signals_at, step_at, trace
 use crate::lines::{counts_line, signal_line, step_line, violation_line};
 use engine::{Processor, Running};
 use listing::{fault_line, first};
-use machine::{Counts, Outcome, Refusal};
+use machine::{Counts, Refusal};
 use memory::{Core, Memory};
 use std::alloc::{AllocError, Global};
 
@@ -34,14 +34,7 @@ impl Page {
     {
         Page {
             text: String::new(heap),
-            counts: Counts {
-                done: 0,
-                not_carried: 0,
-                violations: 0,
-                stalls: 0,
-                entries: 0,
-                idles: 0,
-            },
+            counts: Counts::default(),
         }
     }
 
@@ -52,22 +45,6 @@ impl Page {
     {
         self.text.push_str(line)?;
         self.text.push('\n')
-    }
-
-    // One step more.
-    fn tally(&mut self, outcome: Outcome)
-        requires { Room self.old.counts }
-        ensures counts { self.new.counts ≡ tallied outcome self.old.counts }
-        ensures text { string_bytes self.new.text ≡ string_bytes self.old.text }
-    {
-        match outcome {
-            Outcome::Done => self.counts.done += 1,
-            Outcome::NotCarried => self.counts.not_carried += 1,
-            Outcome::Violated(_) => self.counts.violations += 1,
-            Outcome::Stalled(_) => self.counts.stalls += 1,
-            Outcome::Entered(_) => self.counts.entries += 1,
-            Outcome::Idle => self.counts.idles += 1,
-        }
     }
 }
 
@@ -118,7 +95,7 @@ fn make_step<M: Memory>(
     let before = processor.registers();
     let outcome = processor.step();
     let after = processor.registers();
-    page.tally(outcome);
+    page.counts.tally(outcome);
     let line = step_line(heap, number, outcome, &before, &after)?;
     page.write(line.as_str())
 }

@@ -7,11 +7,10 @@ use Rattle.console.proofs.traces.make_step.Goals as goal
 pub returns : goal.returns
 returns g c =
     let before = c.args.page.now in
-    let between = c.tally.new.self in
     let after = c.write.new.self in
     let m = seen g.M.Memory.words c.args.processor.now in
     let n = seen g.M.Memory.words c.step-outcome.new.self in
     let s = c.step-outcome.ensures in
     IfOk-weaker c.write.result _ _
-    (λ _ d. step_made c.args.number (string_bytes before.text) (string_bytes between.text) (string_bytes after.text) c.as_str.result.now before.counts between.counts after.counts m n c.step-outcome.result c.registers-before.result c.registers-after.result c.tally.ensures.text d (c.as_str.ensures.value ∙ c.in_ok-line.ensures) c.registers-before.ensures s.answer s.after c.registers-after.ensures c.tally.ensures.counts c.write.ensures.counts)
+    (λ _ d. step_made c.args.number (string_bytes before.text) (string_bytes after.text) c.as_str.result.now before.counts c.tally.new.self after.counts m n c.step-outcome.result c.registers-before.result c.registers-after.result d (c.as_str.ensures.value ∙ c.in_ok-line.ensures) c.registers-before.ensures s.answer s.after c.registers-after.ensures (c.tally.ensures.exact c.requires) c.write.ensures.counts)
     c.write.ensures.text

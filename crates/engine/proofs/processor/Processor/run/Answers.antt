@@ -1,18 +1,16 @@
 use Rattle.std.proofs.Common.{refl, ◌∙◌, arith}
+use Rattle.machine.proofs.Tallies.{none_counted}
 use Rattle.engine.specs.View.{seen}
 use Rattle.engine.proofs.Runs.{begin, more, not_run, ran}
 use Rattle.engine.proofs.processor.Processor.run.Goals as goal
 
 pub loop-init : goal.loop-init
-loop-init g c = (begin c.args.steps (seen g.M.Memory.words c.args.self.now), refl)
-
-pub tally-requires : goal.tally-requires
-tally-requires g c = omega (arith, c.loop.invariant.0.sum)
+loop-init g c = (begin c.args.steps (seen g.M.Memory.words c.args.self.now) c.default-counts.result (none_counted c.default-counts.result c.default-counts.ensures), refl)
 
 pub loop-preserved : goal.loop-preserved
 loop-preserved g c =
     let s = c.step-outcome.ensures in (
-      more c.args.steps c.loop.counter _ _ _ c.loop.counts _ c.step-outcome.result c.loop-test.true c.loop.invariant.0 s.answer s.after c.tally.ensures,
+      more c.args.steps c.loop.counter _ _ _ c.loop.counts _ c.step-outcome.result c.loop-test.true c.loop.invariant.0 s.answer s.after (c.tally.ensures.exact (omega (arith, c.loop.invariant.0.sum))),
       s.outside ∙ c.loop.invariant.1,
     )
 

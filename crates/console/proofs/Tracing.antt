@@ -2,12 +2,10 @@
 use Rattle.std.proofs.Common.{◌≡◌, ℕ, suc, ◌+◌, ◌-◌, ◌<◌, ◌≤◌, Bool, true, false, cond, eqb, List, [], ◌∷◌, length, get_or, take, drop, sym, refl, ap, ◌∙◌, arith}
 use Rattle.std.proofs.lemmas.List.{at_drop_all, at_drop_more}
 use Rattle.std.proofs.lemmas.Bool.{cond-false, le-ltb}
-use Rattle.machine.specs.declared.call.Counts.{Counts}
-use Rattle.machine.specs.declared.call.Outcome.{Outcome}
-use Rattle.machine.specs.declared.call.Outcome.TheVariants.{Entered, Idle, Violated, Stalled, NotCarried, Done}
-use Rattle.machine.specs.Calls.{gone, tallied, total}
+use Rattle.machine.specs.Calls.{gone, total}
 use Rattle.machine.specs.State.{Machine}
 use Rattle.machine.specs.Step.{step}
+use Rattle.machine.proofs.Tallies.{total_tallied}
 use Rattle.image.specs.Reading.{verdict}
 use Rattle.console.specs.declared.traces.Signal.{Signal}
 use Rattle.console.specs.Traces.{Traced, begun, ended, signal_at, signals_at, step_at, trace_of, trace_report, trace_text, traced}
@@ -29,14 +27,6 @@ signals_count n (s ∷ ss) x = signals_count n ss (cond (eqb s.step n) (signal_a
     one : (b : Bool) → (cond b (signal_at s.level x) x).counts ≡ x.counts
     one true = refl
     one false = refl
-
-total_tallied : (o : Outcome) (n : Counts) → total (tallied o n) ≡ total n + 1
-total_tallied (Entered k) n = omega arith
-total_tallied Idle n = omega arith
-total_tallied (Violated x) n = omega arith
-total_tallied (Stalled x) n = omega arith
-total_tallied NotCarried n = omega arith
-total_tallied Done n = omega arith
 
 -- i of n steps have been made
 pub record Half (n i : ℕ) (ss : List Signal) (start x : Traced) : Type 0 where

@@ -1,13 +1,13 @@
 //! A trace of an image.
 ghost use Rattle.std.specs.Prelude.{◌≡◌, IfOk, string_bytes, OnOk};
-ghost use Rattle.machine.specs.Calls.{Room, tallied};
+ghost use Rattle.machine.specs.Calls.{Room};
 ghost use Rattle.engine.specs.View.{seen};
 ghost use Rattle.console.specs.Traces.{at, begun, ended, signal_at, signals_at, step_at, trace_of, trace_text};
 
 use crate::lines::{counts_line, signal_line, step_line, violation_line};
 use engine::{Processor, Running};
 use listing::{fault_line, first};
-use machine::{Counts, Outcome, Refusal};
+use machine::{Counts, Refusal};
 use memory::{Core, Memory};
 use std::alloc::{AllocError, Global};
 
@@ -27,21 +27,6 @@ struct Tracer<'a, M> {
     counts: Counts,
 }
 
-// One step more.
-fn tally(counts: &mut Counts, outcome: Outcome)
-    requires { Room counts.old }
-    ensures { counts.new ≡ tallied outcome counts.old }
-{
-    match outcome {
-        Outcome::Done => counts.done += 1,
-        Outcome::NotCarried => counts.not_carried += 1,
-        Outcome::Violated(_) => counts.violations += 1,
-        Outcome::Stalled(_) => counts.stalls += 1,
-        Outcome::Entered(_) => counts.entries += 1,
-        Outcome::Idle => counts.idles += 1,
-    }
-}
-
 impl<'a, M: Memory> Tracer<'a, M> {
     // A trace that begins.
     fn new(heap: Global, processor: &'a mut Processor<Running, M>) -> Tracer<'a, M>
@@ -51,14 +36,7 @@ impl<'a, M: Memory> Tracer<'a, M> {
             heap,
             processor,
             text: String::new(heap),
-            counts: Counts {
-                done: 0,
-                not_carried: 0,
-                violations: 0,
-                stalls: 0,
-                entries: 0,
-                idles: 0,
-            },
+            counts: Counts::default(),
         }
     }
 
@@ -91,7 +69,7 @@ impl<'a, M: Memory> Tracer<'a, M> {
         let before = self.processor.registers();
         let outcome = self.processor.step();
         let after = self.processor.registers();
-        tally(&mut self.counts, outcome);
+        self.counts.tally(outcome);
         let line = step_line(self.heap, number, outcome, &before, &after)?;
         writeln!(self.text, "{line}")
     }

@@ -6,12 +6,12 @@ use Rattle.machine.specs.declared.call.Call.{Call}
 use Rattle.machine.specs.declared.call.Call.TheVariants.{Run}
 use Rattle.machine.specs.declared.call.Counts.{Counts}
 use Rattle.machine.specs.declared.call.Outcome.{Outcome}
-use Rattle.machine.specs.declared.call.Outcome.TheVariants.{Entered, Idle, Violated, Stalled, NotCarried, Done}
 use Rattle.machine.specs.declared.refusal.Refusal.{Refusal}
 use Rattle.machine.specs.declared.refusal.Refusal.TheVariants.{RunTooLong}
 use Rattle.machine.specs.Calls.{after_call, after_calls, counted, counts_of, end, if_ok, no_counts, or_refusal, plus, run_answer, run_refusal, run_trail, tallied, tick, total, trail}
 use Rattle.machine.specs.State.{Machine}
 use Rattle.machine.specs.Step.{Moment, step}
+use Rattle.machine.proofs.Tallies.{total_tallied}
 use Rattle.isolation.specs.Isolation.{Confined}
 use Rattle.isolation.specs.Steps.{Each}
 use Rattle.isolation.proofs.Theorem.{each, step_confined}
@@ -49,27 +49,20 @@ none_plus x = λ i. record {
     zero_plus : (n : ℕ) → n ≡ 0 + n
     zero_plus n = omega arith
 
-total_tallied : (o : Outcome) (n : Counts) → total (tallied o n) ≡ total n + 1
-total_tallied (Entered k) n = omega arith
-total_tallied Idle n = omega arith
-total_tallied (Violated x) n = omega arith
-total_tallied (Stalled x) n = omega arith
-total_tallied NotCarried n = omega arith
-total_tallied Done n = omega arith
-
 -- i of the n steps have been made, and c counts them
 pub record HalfRun (n i : ℕ) (start m : Machine) (c : Counts) : Type 0 where
   pub ends : end start (replicate n tick) ≡ end m (replicate (n - i) tick)
   pub counts : counts_of (trail start (replicate n tick)) ≡ plus c (counts_of (trail m (replicate (n - i) tick)))
   pub sum : total c ≡ i
 
-pub begin : (n : ℕ) (m : Machine) → HalfRun n 0 m m no_counts
-begin n m =
+pub begin : (n : ℕ) (m : Machine) (c : Counts) → c ≡ no_counts → HalfRun n 0 m m c
+begin n m c none =
     let z : n ≡ n - 0 = omega arith in
     record {
       ends = ap (λ k. end m (replicate k tick)) z;
-      counts = none_plus (counts_of (trail m (replicate n tick))) ∙ ap (λ k. plus no_counts (counts_of (trail m (replicate k tick)))) z;
-      sum = refl;
+      counts = none_plus (counts_of (trail m (replicate n tick))) ∙ ap (λ k. plus no_counts (counts_of (trail m (replicate k tick)))) z
+          ∙ ap (λ x. plus x (counts_of (trail m (replicate (n - 0) tick)))) (sym none);
+      sum = ap total none;
     }
 
 pub more : (n i : ℕ) (start m t : Machine) (c d : Counts) (o : Outcome) → i < n → HalfRun n i start m c → o ≡ (step m).outcome → t ≡ (step m).after → d ≡ tallied o c → HalfRun n (i + 1) start t d

@@ -2,28 +2,13 @@
 ghost use Rattle.std.specs.Prelude.{◌≡◌, true, IfOk};
 ghost use Rattle.isolation.specs.Isolation.{Confined};
 ghost use Rattle.isolation.specs.Steps.{Each};
-ghost use Rattle.machine.specs.Calls.{Room, after_call, after_calls, answer as answered, run_answer, run_trail, signal_answer, tallied, total};
+ghost use Rattle.machine.specs.Calls.{after_call, after_calls, answer as answered, run_answer, run_trail, signal_answer, total};
 ghost use Rattle.engine.specs.View.{seen};
 
 use crate::processor::{Idle, Live, Processor, Running};
 use levels::{Event, LevelState};
-use machine::{Answer, Call, Counts, Outcome, Refusal, Signalled};
+use machine::{Answer, Call, Counts, Refusal, Signalled};
 use memory::Memory;
-
-// One step more.
-fn tally(counts: &mut Counts, outcome: Outcome)
-    requires { Room counts.old }
-    ensures { counts.new ≡ tallied outcome counts.old }
-{
-    match outcome {
-        Outcome::Done => counts.done += 1,
-        Outcome::NotCarried => counts.not_carried += 1,
-        Outcome::Violated(_) => counts.violations += 1,
-        Outcome::Stalled(_) => counts.stalls += 1,
-        Outcome::Entered(_) => counts.entries += 1,
-        Outcome::Idle => counts.idles += 1,
-    }
-}
 
 impl<K: Live, M: Memory> Processor<K, M> {
     /// At most 1,000,000 steps, and how many were of each kind.
@@ -37,17 +22,10 @@ impl<K: Live, M: Memory> Processor<K, M> {
         if steps > 1_000_000 {
             return Err(Refusal::RunTooLong);
         }
-        let mut counts = Counts {
-            done: 0,
-            not_carried: 0,
-            violations: 0,
-            stalls: 0,
-            entries: 0,
-            idles: 0,
-        };
+        let mut counts = Counts::default();
         for i in 0..steps {
             let outcome = self.step();
-            tally(&mut counts, outcome);
+            counts.tally(outcome);
         }
         Ok(counts)
     }

@@ -1,5 +1,5 @@
 -- The calls of a running processor: what each answers, and the machine after it.
-use Rattle.std.specs.Prelude.{ℕ, ◌+◌, ◌^◌, ◌<◌, Bool, true, cond, List, [], ◌∷◌, length, replicate, Ok, Err, Result, ◌==◌, nat_lt, slice_index}
+use Rattle.std.specs.Prelude.{ℕ, ◌+◌, ◌-◌, ◌^◌, ◌<◌, min, Bool, true, cond, List, [], ◌∷◌, length, replicate, Ok, Err, Result, ◌==◌, nat_lt, slice_index}
 use Rattle.machine.specs.declared.call.Answer.{Answer}
 use Rattle.machine.specs.declared.call.Answer.TheVariants.{Stepped, Ran, Signalled as Signalling, Registers as AllRegisters, Protection as AllProtection, Violation as Latest, Word as OneWord, Refused}
 use Rattle.machine.specs.declared.call.Call.{Call}
@@ -99,6 +99,21 @@ counted Idle = record { done = 0; not_carried = 0; violations = 0; stalls = 0; e
 -- counts and one step more
 abbrev pub tallied : Outcome → Counts → Counts
 tallied o n = plus n (counted o)
+
+-- a count with k more; one that 32 bits cannot hold stops at their greatest number
+abbrev pub raised : ℕ → ℕ → ℕ
+raised k n = cond (k == 0) n (min (n + k) (2 ^ 32 - 1))
+
+-- counts and one step more, as 32 bits hold them
+abbrev pub held_tally : Outcome → Counts → Counts
+held_tally o n = record {
+  done = raised (counted o).done n.done;
+  not_carried = raised (counted o).not_carried n.not_carried;
+  violations = raised (counted o).violations n.violations;
+  stalls = raised (counted o).stalls n.stalls;
+  entries = raised (counted o).entries n.entries;
+  idles = raised (counted o).idles n.idles;
+}
 
 -- the counts of steps
 abbrev pub counts_of : List Moment → Counts

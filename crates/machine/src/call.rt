@@ -1,5 +1,6 @@
 //! The calls of a running processor, and their answers.
 ghost use Rattle.std.specs.Prelude.{◌≡◌};
+ghost use Rattle.machine.specs.Calls.{Room, held_tally, tallied};
 ghost use Rattle.machine.specs.Step.{carried, class};
 
 use crate::instruction::Instruction;
@@ -25,7 +26,7 @@ pub enum Signalled {
 }
 
 /// How many steps of a run were of each kind.
-#[derive(Clone, Copy, PartialEq, Eq, Debug)]
+#[derive(Clone, Copy, PartialEq, Eq, Debug, Default)]
 pub struct Counts {
     pub done: u32,
     pub not_carried: u32,
@@ -33,6 +34,23 @@ pub struct Counts {
     pub stalls: u32,
     pub entries: u32,
     pub idles: u32,
+}
+
+impl Counts {
+    /// Counts one step more; a count that can go no higher stays.
+    pub fn tally(&mut self, outcome: Outcome)
+        ensures held { self.new ≡ held_tally outcome self.old }
+        ensures exact { Room self.old → self.new ≡ tallied outcome self.old }
+    {
+        match outcome {
+            Outcome::Done => self.done = self.done.saturating_add(1),
+            Outcome::NotCarried => self.not_carried = self.not_carried.saturating_add(1),
+            Outcome::Violated(_) => self.violations = self.violations.saturating_add(1),
+            Outcome::Stalled(_) => self.stalls = self.stalls.saturating_add(1),
+            Outcome::Entered(_) => self.entries = self.entries.saturating_add(1),
+            Outcome::Idle => self.idles = self.idles.saturating_add(1),
+        }
+    }
 }
 
 /// A call of a running processor.

@@ -1,5 +1,5 @@
 -- The text of a trace of an image.
-use Rattle.std.specs.Prelude.{ℕ, zero, suc, ◌+◌, Bool, true, false, cond, List, [], ◌∷◌, ◌++◌, take, Ok, Err, string_bytes, codes, decimal, Result, ◌==◌, nat_lt}
+use Rattle.std.specs.Prelude.{ℕ, zero, suc, ◌+◌, Bool, cond, List, [], ◌∷◌, ◌++◌, take, Ok, Err, string_bytes, codes, decimal, Result, ◌==◌, nat_lt}
 use Rattle.image.specs.declared.Fault.{Fault}
 use Rattle.image.specs.declared.Record.{Record}
 use Rattle.image.specs.Reading.{verdict}
@@ -11,10 +11,11 @@ use Rattle.machine.specs.Refusals.{number}
 use Rattle.machine.specs.State.{Machine, registers}
 use Rattle.machine.specs.Step.{step}
 use Rattle.engine.specs.Loads.{loaded}
+use Rattle.engine.specs.View.{seen}
 use Rattle.listing.specs.Listing.{blank, line}
 use Rattle.listing.specs.Text.{fault_line}
-use Rattle.console.specs.declared.traces.Page.{Page}
 use Rattle.console.specs.declared.traces.Signal.{Signal}
+use Rattle.console.specs.declared.traces.Tracer.{Tracer}
 use Rattle.console.specs.Lines.{counts_line, signal_line, step_line, violation_line}
 
 -- a trace so far: its text, the counts of its steps, and the machine
@@ -23,23 +24,22 @@ pub record Traced : Type 0 where
   pub counts : Counts
   pub machine : Machine
 
--- a page and a machine, seen as a trace so far
-abbrev pub at : Page → Machine → Traced
-at page m = record { text = string_bytes page.text; counts = page.counts; machine = m }
+-- a tracer, by what its memory means, seen as a trace so far
+abbrev pub at : {M : Type 0} → (M → List ℕ) → Tracer M → Traced
+at words t = record { text = string_bytes t.text; counts = t.counts; machine = seen words t.processor.now }
 
--- a signal to level k is made, with its line, where a test holds
-abbrev pub signal_if : Bool → ℕ → Traced → Traced
-signal_if true k x = record {
+-- a signal to level k is made, with its line
+abbrev pub signal_at : ℕ → Traced → Traced
+signal_at k x = record {
   text = x.text ++ line (signal_line k (signal_answer k x.machine));
   counts = x.counts;
   machine = after_call (SignalCall k) x.machine;
 }
-signal_if false k x = x
 
 -- the signals given for step n are made in their order
 abbrev pub signals_at : ℕ → List Signal → Traced → Traced
 signals_at n [] x = x
-signals_at n (s ∷ ss) x = signals_at n ss (signal_if (s.step == n) s.level x)
+signals_at n (s ∷ ss) x = signals_at n ss (cond (s.step == n) (signal_at s.level x) x)
 
 -- the line of step n, which a machine makes
 abbrev pub moment_line : ℕ → Machine → List ℕ

@@ -1,10 +1,11 @@
 //! The lines of a trace, each without its line feed.
-ghost use Rattle.std.specs.Prelude.{◌≡◌, IfOk, string_bytes};
+ghost use Rattle.std.specs.Prelude.{◌≡◌, ◌<◌, IfOk, Some, slice_index, string_bytes};
 ghost use Rattle.console.specs.Lines.{change as changed, changes as all_changes, counts_line, kind_name, outcome_text, signal_line, signalled_name, step_line, violation_line, violation_text};
 
 use listing::Hex;
 use machine::{Counts, Outcome, Refusal, Signalled, Violation, ViolationKind};
 use std::alloc::{AllocError, Global};
+use std::fmt;
 
 // The kind of a violation as a word.
 fn kind_name(kind: ViolationKind) -> &'static str
@@ -17,56 +18,95 @@ fn kind_name(kind: ViolationKind) -> &'static str
     }
 }
 
-// A violation: its kind, its place and its aim.
-fn violation_text(heap: Global, violation: Violation) -> Result<String, AllocError>
-    ensures { IfOk result (λ s. string_bytes s ≡ violation_text violation) }
-{
-    let kind = kind_name(violation.kind);
-    format!(in heap; "{kind} {} {}", Hex(violation.place), Hex(violation.aim))
-}
+// A violation that is shown as its kind, its place and its aim.
+#[derive(Clone, Copy)]
+struct ViolationText(Violation);
 
-// What a step was.
-fn outcome_text(heap: Global, outcome: Outcome) -> Result<String, AllocError>
-    ensures { IfOk result (λ s. string_bytes s ≡ outcome_text outcome) }
-{
-    match outcome {
-        Outcome::Entered(level) => format!(in heap; "entry {level}"),
-        Outcome::Idle => String::from_str(heap, "idle"),
-        Outcome::Violated(violation) => {
-            let text = violation_text(heap, violation)?;
-            format!(in heap; "violation {text}")
-        }
-        Outcome::Stalled(violation) => {
-            let text = violation_text(heap, violation)?;
-            format!(in heap; "stall {text}")
-        }
-        Outcome::NotCarried => String::from_str(heap, "not-carried"),
-        Outcome::Done => String::from_str(heap, "done"),
+impl fmt::Display for ViolationText {
+    ghost output = { λ x. Some (violation_text x.0) };
+
+    fn fmt<W: fmt::Write>(&self, f: &mut fmt::Formatter<W>) -> fmt::Result {
+        let Violation { kind, place, aim } = self.0;
+        write!(f, "{} {} {}", kind_name(kind), Hex(place), Hex(aim))
     }
 }
 
-// A register and its word after a step, if that is another than before.
-fn change(heap: Global, name: &str, before: u16, after: u16) -> Result<String, AllocError>
-    ensures { IfOk result (λ s. string_bytes s ≡ changed name.now before after) }
-{
-    if before == after {
-        Ok(String::new(heap))
-    } else {
-        format!(in heap; " {name}={}", Hex(after))
+// What a step was, shown as a word and what belongs to it.
+#[derive(Clone, Copy)]
+struct OutcomeText(Outcome);
+
+impl fmt::Display for OutcomeText {
+    ghost output = { λ x. Some (outcome_text x.0) };
+
+    fn fmt<W: fmt::Write>(&self, f: &mut fmt::Formatter<W>) -> fmt::Result {
+        match self.0 {
+            Outcome::Entered(level) => write!(f, "entry {level}"),
+            Outcome::Idle => write!(f, "idle"),
+            Outcome::Violated(violation) => write!(f, "violation {}", ViolationText(violation)),
+            Outcome::Stalled(violation) => write!(f, "stall {}", ViolationText(violation)),
+            Outcome::NotCarried => write!(f, "not-carried"),
+            Outcome::Done => write!(f, "done"),
+        }
     }
 }
 
-// The registers that changed, but P, which the next line shows.
-fn changes(heap: Global, before: &[u16; 8], after: &[u16; 8]) -> Result<String, AllocError>
-    ensures { IfOk result (λ s. string_bytes s ≡ all_changes before.now after.now) }
-{
-    let l = change(heap, "L", before[2], after[2])?;
-    let t = change(heap, "T", before[3], after[3])?;
-    let x1 = change(heap, "X1", before[4], after[4])?;
-    let x2 = change(heap, "X2", before[5], after[5])?;
-    let e = change(heap, "E", before[6], after[6])?;
-    let a = change(heap, "A", before[7], after[7])?;
-    format!(in heap; "{l}{t}{x1}{x2}{e}{a}")
+// A register around a step, shown with its word after it where that is another than before.
+#[derive(Clone, Copy)]
+struct Change {
+    name: &'static str,
+    before: u16,
+    after: u16,
+}
+
+impl fmt::Display for Change {
+    ghost output = { λ x. Some (changed x.name.now x.before x.after) };
+
+    fn fmt<W: fmt::Write>(&self, f: &mut fmt::Formatter<W>) -> fmt::Result {
+        if self.before == self.after {
+            return Ok(());
+        }
+        write!(f, " {}={}", self.name, Hex(self.after))
+    }
+}
+
+// The registers around a step, shown where they changed; without P, which the next line shows.
+#[derive(Clone, Copy)]
+struct Changes<'a> {
+    before: &'a [u16; 8],
+    after: &'a [u16; 8],
+}
+
+impl Changes<'_> {
+    // The register of a number, by its name.
+    fn of(&self, name: &'static str, number: usize) -> Change
+        requires { number < 8 }
+        ensures name { result.name.now ≡ name.now }
+        ensures before { result.before ≡ slice_index self.now.before.now number }
+        ensures after { result.after ≡ slice_index self.now.after.now number }
+    {
+        Change {
+            name,
+            before: self.before[number],
+            after: self.after[number],
+        }
+    }
+}
+
+impl fmt::Display for Changes<'_> {
+    ghost output = { λ x. Some (all_changes x.before.now x.after.now) };
+
+    fn fmt<W: fmt::Write>(&self, f: &mut fmt::Formatter<W>) -> fmt::Result {
+        write!(
+            f,
+            "{}{}{}{}{}{}",
+            self.of("L", 2),
+            self.of("T", 3),
+            self.of("X1", 4),
+            self.of("X2", 5),
+            self.of("E", 6),
+            self.of("A", 7)
+        )
+    }
 }
 
 /// The line of a step, by its number, what it was, and the registers before and after it.
@@ -79,9 +119,12 @@ pub fn step_line(
 ) -> Result<String, AllocError>
     ensures { IfOk result (λ s. string_bytes s ≡ step_line number outcome before.now after.now) }
 {
-    let outcome = outcome_text(heap, outcome)?;
-    let changes = changes(heap, before, after)?;
-    format!(in heap; "{number} {} {outcome}{changes}", Hex(before[1]))
+    let changes = Changes { before, after };
+    format!(in heap;
+        "{number} {} {}{changes}",
+        Hex(before[1]),
+        OutcomeText(outcome)
+    )
 }
 
 // What a signal did, as a word.
@@ -104,10 +147,7 @@ pub fn signal_line(
 {
     match answer {
         Ok(signalled) => format!(in heap; "signal {level} {}", signalled_name(signalled)),
-        Err(refusal) => {
-            let number = refusal.number();
-            format!(in heap; "signal {level} refused {number}")
-        }
+        Err(refusal) => format!(in heap; "signal {level} refused {}", refusal.number()),
     }
 }
 
@@ -132,9 +172,6 @@ pub fn violation_line(heap: Global, latest: Option<Violation>) -> Result<String,
 {
     match latest {
         None => String::from_str(heap, "violation none"),
-        Some(violation) => {
-            let text = violation_text(heap, violation)?;
-            format!(in heap; "violation {text}")
-        }
+        Some(violation) => format!(in heap; "violation {}", ViolationText(violation)),
     }
 }

@@ -1,9 +1,8 @@
 //! A trace of an image.
-ghost use Rattle.std.specs.Prelude.{◌≡◌, [], ◌++◌, IfOk, string_bytes, OnOk, ◌==◌};
-ghost use Rattle.machine.specs.Calls.{Room, no_counts};
+ghost use Rattle.std.specs.Prelude.{◌≡◌, IfOk, string_bytes, OnOk};
+ghost use Rattle.machine.specs.Calls.{Room};
 ghost use Rattle.engine.specs.View.{seen};
-ghost use Rattle.listing.specs.Listing.{line as ended_line};
-ghost use Rattle.console.specs.Traces.{at, signal_if, signals_at, step_at, trace_of, trace_text};
+ghost use Rattle.console.specs.Traces.{at, begun, ended, signal_at, signals_at, step_at, trace_of, trace_text};
 
 use crate::lines::{counts_line, signal_line, step_line, violation_line};
 use engine::{Processor, Running};
@@ -19,85 +18,70 @@ pub struct Signal {
     pub level: u8,
 }
 
-// The text of a trace so far, and what its steps were.
+// A trace so far: the processor that makes it, its text, and what its steps were.
 #[derive(Drop)]
-struct Page {
+struct Tracer<'a, M> {
+    heap: Global,
+    processor: &'a mut Processor<Running, M>,
     text: String,
     counts: Counts,
 }
 
-impl Page {
-    // An empty page.
-    fn new(heap: Global) -> Page
-        ensures text { string_bytes result.text ≡ [] }
-        ensures counts { result.counts ≡ no_counts }
+impl<'a, M: Memory> Tracer<'a, M> {
+    // A trace that begins.
+    fn new(heap: Global, processor: &'a mut Processor<Running, M>) -> Tracer<'a, M>
+        ensures { at M.words result ≡ begun (seen M.words processor.old) }
     {
-        Page {
+        Tracer {
+            heap,
+            processor,
             text: String::new(heap),
             counts: Counts::default(),
         }
     }
 
-    // Writes a line.
-    fn write(&mut self, line: &str) -> Result<(), AllocError>
-        ensures text { OnOk result (string_bytes self.new.text ≡ string_bytes self.old.text ++ ended_line line.now) }
-        ensures counts { self.new.counts ≡ self.old.counts }
+    // Makes a signal, and writes its line.
+    fn signal(&mut self, level: u8) -> Result<(), AllocError>
+        ensures { OnOk result (at M.words self.new ≡ signal_at level (at M.words self.old)) }
     {
-        self.text.push_str(line)?;
-        self.text.push('\n')
+        let answer = self.processor.signal(level);
+        let line = signal_line(self.heap, level, answer)?;
+        writeln!(self.text, "{line}")
     }
-}
 
-// Makes a signal and writes its line, if it is given for a step.
-fn make_signal<M: Memory>(
-    heap: Global,
-    processor: &mut Processor<Running, M>,
-    page: &mut Page,
-    signal: Signal,
-    step: u32,
-) -> Result<(), AllocError>
-    ensures { OnOk result (at page.new (seen M.words processor.new) ≡ signal_if (signal.step == step) signal.level (at page.old (seen M.words processor.old))) }
-{
-    if signal.step != step {
-        return Ok(());
+    // Makes the signals that are given for a step.
+    fn signals(&mut self, signals: &[Signal], step: u32) -> Result<(), AllocError>
+        ensures { OnOk result (at M.words self.new ≡ signals_at step signals.now (at M.words self.old)) }
+    {
+        for signal in signals {
+            if signal.step == step {
+                self.signal(signal.level)?;
+            }
+        }
+        Ok(())
     }
-    let answer = processor.signal(signal.level);
-    let line = signal_line(heap, signal.level, answer)?;
-    page.write(line.as_str())
-}
 
-// Makes the signals that are given for a step.
-fn make_signals<M: Memory>(
-    heap: Global,
-    processor: &mut Processor<Running, M>,
-    page: &mut Page,
-    signals: &[Signal],
-    step: u32,
-) -> Result<(), AllocError>
-    ensures { OnOk result (at page.new (seen M.words processor.new) ≡ signals_at step signals.now (at page.old (seen M.words processor.old))) }
-{
-    for signal in signals {
-        make_signal(heap, processor, page, *signal, step)?;
+    // Makes a step, counts it, and writes its line.
+    fn step(&mut self, number: u32) -> Result<(), AllocError>
+        requires { Room self.old.counts }
+        ensures { OnOk result (at M.words self.new ≡ step_at number (at M.words self.old)) }
+    {
+        let before = self.processor.registers();
+        let outcome = self.processor.step();
+        let after = self.processor.registers();
+        self.counts.tally(outcome);
+        let line = step_line(self.heap, number, outcome, &before, &after)?;
+        writeln!(self.text, "{line}")
     }
-    Ok(())
-}
 
-// Makes a step, writes its line and counts it.
-fn make_step<M: Memory>(
-    heap: Global,
-    processor: &mut Processor<Running, M>,
-    page: &mut Page,
-    number: u32,
-) -> Result<(), AllocError>
-    requires { Room page.old.counts }
-    ensures { OnOk result (at page.new (seen M.words processor.new) ≡ step_at number (at page.old (seen M.words processor.old))) }
-{
-    let before = processor.registers();
-    let outcome = processor.step();
-    let after = processor.registers();
-    page.counts.tally(outcome);
-    let line = step_line(heap, number, outcome, &before, &after)?;
-    page.write(line.as_str())
+    // The text of a trace at its end: with the counts and the latest violation.
+    fn end(&self) -> Result<String, AllocError>
+        ensures { IfOk result (λ s. string_bytes s ≡ ended (at M.words self.now)) }
+    {
+        let counts = counts_line(self.heap, self.counts)?;
+        let violation = violation_line(self.heap, self.processor.violation())?;
+        format!(in self.heap; "{}{counts}\n{violation}\n", self.text)
+    }
 }
 
 // The text of steps of a processor; as a run does, it refuses more than 1,000,000.
@@ -110,18 +94,14 @@ fn steps_text<M: Memory>(
     ensures { IfOk result (λ s. string_bytes s ≡ trace_of steps signals.now (seen M.words processor.old)) }
 {
     if steps > 1_000_000 {
-        let number = Refusal::RunTooLong.number();
-        return format!(in heap; "refused {number}\n");
+        return format!(in heap; "refused {}\n", Refusal::RunTooLong.number());
     }
-    let mut page = Page::new(heap);
+    let mut tracer = Tracer::new(heap, processor);
     for number in 0..steps {
-        make_signals(heap, processor, &mut page, signals, number)?;
-        make_step(heap, processor, &mut page, number)?;
+        tracer.signals(signals, number)?;
+        tracer.step(number)?;
     }
-    let steps = page.text;
-    let counts = counts_line(heap, page.counts)?;
-    let violation = violation_line(heap, processor.violation())?;
-    format!(in heap; "{steps}{counts}\n{violation}\n")
+    tracer.end()
 }
 
 /// The trace of an image, loaded into a new processor over 8192 zero words: a line for each signal and each step, the

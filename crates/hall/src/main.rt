@@ -26,11 +26,11 @@ fn story(rt: &(impl Print + AllocGlobal), protect: bool) -> io::Result<()> {
     let mut idle = Processor::new(Core::new(&mut words));
     let loaded = load(rt, &mut idle);
     let mut processor = idle.go(protect);
-    let told = Teller {
+    let mut teller = Teller {
         rt,
         processor: &mut processor,
-    }
-    .tell();
+    };
+    let told = teller.tell();
     let _ = processor.halt().into_memory();
     loaded?;
     told

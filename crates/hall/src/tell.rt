@@ -40,9 +40,9 @@ impl<R: Print> Teller<'_, '_, R> {
             print!(self.rt; " 0x{word:04x}")?;
         }
         let lost = hall::KEYS
-            .iter()
-            .zip(&held)
-            .filter(|((_, key), word)| key != *word)
+            .into_iter()
+            .zip(held)
+            .filter(|((_, key), word)| key != word)
             .count();
         match lost {
             0 => println!(self.rt; ": every key is as it was."),

@@ -15,8 +15,13 @@ const STEPS: u32 = 1_000_000;
 // How many runs there are where none are asked for.
 const RUNS: u32 = 20;
 
+// The numbers of the registers P and X2.
+const P: u8 = 1;
+
+const X2: u8 = 5;
+
 // The registers before the first run: P is at the start of the loop, and X2 has a base.
-const REGISTERS: [(u8, u16); 2] = [(1, 0x0200), (5, 0x0300)];
+const REGISTERS: [(u8, u16); 2] = [(P, 0x0200), (X2, 0x0300)];
 
 // The loop and its data: addresses and words. No page is protected, so all of it is background.
 const LOOP: [(u16, u16); 17] = [
@@ -53,6 +58,7 @@ impl fmt::Display for Registers {
     }
 }
 
+// Puts the loop into memory, and sets the registers.
 fn prepare(processor: &mut Processor<Idle, Core<'_>>) {
     for (address, word) in LOOP {
         let _ = processor.deposit_word(address, word);

@@ -22,10 +22,10 @@ impl Sums {
         ];
         self.done = self.done.wrapping_add(u64::from(counts.done));
         self.violations = self.violations.wrapping_add(u64::from(counts.violations));
-        self.others = others.iter().fold(
-            self.others,
-            |sum, count| sum.wrapping_add(u64::from(*count)),
-        );
+        self.others = others
+            .into_iter()
+            .map(u64::from)
+            .fold(self.others, u64::wrapping_add);
     }
 
     /// Mixes words into the checksum.

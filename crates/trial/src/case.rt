@@ -22,8 +22,7 @@ impl Act {
         match self {
             Act::Step => rt.print(Stepped(processor.step())),
             Act::Signal(level) => {
-                let answer = processor.signal(level).map(signal_name);
-                let answer = Answer(answer.map_err(|refusal| refusal.number()));
+                let answer = Answer::from(processor.signal(level).map(signal_name));
                 print!(rt; "signal {level} is {answer}")
             }
             Act::Register(register) => {
@@ -31,8 +30,7 @@ impl Act {
                 print!(rt; "{register:?} is {word}")
             }
             Act::Word(address) => {
-                let answer = processor.word(address).map(Word);
-                let answer = Answer(answer.map_err(|refusal| refusal.number()));
+                let answer = Answer::from(processor.word(address).map(Word));
                 print!(rt; "word {} is {answer}", Word(address))
             }
             Act::Flags => {

@@ -2,12 +2,12 @@
 use crate::start::{Register, SIZE, Start, ZEROS};
 use crate::text::{Answer, Ran};
 use engine::{Processor, Running};
-use memory::{Core, Plan};
+use memory::{Core, Plan, PlanRefusal};
 use std::io;
 
 fn try_plan(rt: &impl Print, plan: &mut Plan, block: u8, portion: u8) -> io::Result<()> {
-    let answer = plan.set(block, portion).map(|()| "taken");
-    let answer = Answer(answer.map_err(|refusal| refusal.number()));
+    let set = plan.set(block, portion);
+    let answer = Answer(set.map(|()| "taken").map_err(PlanRefusal::number));
     println!(rt; "plan: block {block} to portion {portion} is {answer}")
 }
 
@@ -16,8 +16,7 @@ fn try_run(
     processor: &mut Processor<Running, Core<'_>>,
     steps: u32,
 ) -> io::Result<()> {
-    let answer = processor.run(steps).map(Ran);
-    let answer = Answer(answer.map_err(|refusal| refusal.number()));
+    let answer = Answer::from(processor.run(steps).map(Ran));
     println!(rt; "run {steps} is {answer}")
 }
 

@@ -1,5 +1,5 @@
 //! What a processor answers, as text.
-use machine::{Counts, Outcome, Signalled, Violation, ViolationKind};
+use machine::{Counts, Outcome, Refusal, Signalled, Violation, ViolationKind};
 use std::fmt;
 
 /// What a step was.
@@ -73,6 +73,12 @@ impl fmt::Display for Word {
 /// What a call gave, or the number of its refusal.
 #[derive(Drop)]
 pub(crate) struct Answer<T>(pub(crate) Result<T, u8>);
+
+impl<T> From<Result<T, Refusal>> for Answer<T> {
+    fn from(answer: Result<T, Refusal>) -> Answer<T> {
+        Answer(answer.map_err(Refusal::number))
+    }
+}
 
 impl<T: fmt::Display> fmt::Display for Answer<T> {
     fn fmt<W: fmt::Write>(&self, f: &mut fmt::Formatter<W>) -> fmt::Result {

@@ -3,11 +3,20 @@
 /// The pages that are protected: 1 with the level cells, 3 with the key table and 6 with the foreground.
 pub(crate) const PAGES: u16 = 0x5200;
 
+/// The number of P, which holds the place of the next instruction.
+pub(crate) const P: u8 = 1;
+
+// The number of X2, the base register.
+const X2: u8 = 5;
+
 /// The registers at the start: P is the print program's first instruction, and X2 the base of its line.
-pub(crate) const REGISTERS: [(u8, u16); 2] = [(1, 0x0400), (5, 0x0200)];
+pub(crate) const REGISTERS: [(u8, u16); 2] = [(P, 0x0400), (X2, 0x0200)];
 
 /// The levels that are armed and enabled.
 pub(crate) const LEVELS: [u8; 2] = [5, 9];
+
+/// The state of those levels.
+pub(crate) const ARMED_AND_ENABLED: u8 = 2;
 
 /// The key table.
 pub(crate) const KEYS: [(u16, u16); 4] = [
@@ -22,6 +31,9 @@ pub(crate) const COUNTS: u16 = 0x0640;
 
 /// Where the print program's line of 16 words begins, just below the key table.
 pub(crate) const LINE: u16 = 0x02f0;
+
+/// Where the print program rests once its line is full.
+pub(crate) const REST: u16 = 0x0406;
 
 /// The text to print, of 16 words with two characters each.
 pub(crate) const TEXT: &str = "THE HALL IS OPEN FROM TEN TO SIX";

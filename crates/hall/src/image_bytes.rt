@@ -1,68 +1,75 @@
 //! The image of the hall, as bytes of records.
 use crate::hall;
+use image::Record;
 use std::alloc::{AllocError, Global};
 
-// A word, the high byte first.
-fn put_word(bytes: &mut Vec<u8>, word: u16) -> Result<(), AllocError> {
-    bytes.push((word / 256) as u8)?;
-    bytes.push((word % 256) as u8)?;
-    Ok(())
-}
+// The byte behind the last record.
+const END: u8 = 255;
 
-// Records of kind 1: words at addresses.
-fn put_words(bytes: &mut Vec<u8>, words: &[(u16, u16)]) -> Result<(), AllocError> {
-    for (address, word) in words {
-        bytes.push(1)?;
-        put_word(bytes, *address)?;
-        put_word(bytes, *word)?;
-    }
-    Ok(())
-}
-
-// The text, two characters to a word, from its place on.
-fn put_text(bytes: &mut Vec<u8>) -> Result<(), AllocError> {
-    let mut address = hall::TEXT_PLACE;
-    let mut high = 0u8;
-    for (i, character) in hall::TEXT.as_bytes().iter().enumerate() {
-        if i % 2 == 0 {
-            high = *character;
-        } else {
-            bytes.push(1)?;
-            put_word(bytes, address)?;
-            bytes.push(high)?;
-            bytes.push(*character)?;
-            address = address.wrapping_add(1);
+// A record: its kind, and what it holds, of each word the high byte first.
+fn put_record(bytes: &mut Vec<u8>, record: Record) -> Result<(), AllocError> {
+    match record {
+        Record::Word { address, word } => {
+            let [page, place] = address.to_be_bytes();
+            let [high, low] = word.to_be_bytes();
+            bytes.extend_from_slice(&[1, page, place, high, low])
         }
+        Record::Protection { number, word } => {
+            let [high, low] = word.to_be_bytes();
+            bytes.extend_from_slice(&[2, number, high, low])
+        }
+        Record::Register { number, word } => {
+            let [high, low] = word.to_be_bytes();
+            bytes.extend_from_slice(&[3, number, high, low])
+        }
+        Record::Level { number, state } => bytes.extend_from_slice(&[4, number, state]),
+    }
+}
+
+// The tables, and the text, two characters to a word.
+fn put_words(bytes: &mut Vec<u8>) -> Result<(), AllocError> {
+    let (pairs, _) = hall::TEXT.as_bytes().as_chunks::<2>();
+    let text = pairs.iter().map(|pair| u16::from_be_bytes(*pair));
+    let words = hall::FOREGROUND
+        .into_iter()
+        .chain(hall::KEYS)
+        .chain(hall::BACKGROUND)
+        .chain((hall::TEXT_PLACE..).zip(text));
+    for (address, word) in words {
+        put_record(bytes, Record::Word { address, word })?;
     }
     Ok(())
 }
 
-// Records of kinds 2, 3 and 4: protection register 0, the registers, and the levels that are armed and enabled.
+// Protection register 0, the registers, and the levels that are armed and enabled.
 fn put_processor(bytes: &mut Vec<u8>) -> Result<(), AllocError> {
-    bytes.push(2)?;
-    bytes.push(0)?;
-    put_word(bytes, hall::PAGES)?;
+    put_record(
+        bytes,
+        Record::Protection {
+            number: 0,
+            word: hall::PAGES,
+        },
+    )?;
     for (number, word) in hall::REGISTERS {
-        bytes.push(3)?;
-        bytes.push(number)?;
-        put_word(bytes, word)?;
+        put_record(bytes, Record::Register { number, word })?;
     }
-    for level in hall::LEVELS {
-        bytes.push(4)?;
-        bytes.push(level)?;
-        bytes.push(2)?;
+    for number in hall::LEVELS {
+        put_record(
+            bytes,
+            Record::Level {
+                number,
+                state: hall::ARMED_AND_ENABLED,
+            },
+        )?;
     }
     Ok(())
 }
 
 /// All records, and the end.
-pub(crate) fn image_bytes(heap: Global) -> Result<Vec<u8>, AllocError> {
-    let mut bytes = Vec::new(heap);
-    put_words(&mut bytes, &hall::FOREGROUND)?;
-    put_words(&mut bytes, &hall::KEYS)?;
-    put_words(&mut bytes, &hall::BACKGROUND)?;
-    put_text(&mut bytes)?;
+pub(crate) fn image_bytes(alloc: Global) -> Result<Vec<u8>, AllocError> {
+    let mut bytes = Vec::new(alloc);
+    put_words(&mut bytes)?;
     put_processor(&mut bytes)?;
-    bytes.push(255)?;
+    bytes.push(END)?;
     Ok(bytes)
 }

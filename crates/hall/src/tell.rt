@@ -1,105 +1,140 @@
-//! Sentences on what a processor does and holds.
+//! The story, and the sentences on what a processor does and holds.
 use crate::hall;
+use crate::sentence::Step;
 use engine::{Processor, Running};
-use machine::{Outcome, Signalled, Violation, ViolationKind};
+use machine::{Outcome, Signalled};
 use memory::Core;
 use std::io;
 
-/// The processor that the story is of.
-pub(crate) type Hall<'a> = Processor<Running, Core<'a>>;
-
-// The word at an address, of which the memory has more than the story names.
-fn word_at(hall: &mut Hall<'_>, address: u16) -> u16 {
-    hall.word(address).unwrap_or(0)
-}
-
-fn show_violation(rt: &HostRuntime, found: Violation) -> io::Result<()> {
-    let kind = match found.kind {
-        ViolationKind::Entry => "An entry",
-        ViolationKind::Operation => "An operation",
-        ViolationKind::Store => "A store",
-    };
-    let place = found.place;
-    let aim = found.aim;
-    println!(rt; "{kind} violation: the instruction at 0x{place:04x} aims at 0x{aim:04x}.")
-}
-
-/// What a step was.
-pub(crate) fn show_outcome(rt: &HostRuntime, outcome: Outcome) -> io::Result<()> {
-    match outcome {
-        Outcome::Entered(level) => println!(rt; "Level {level} is entered."),
-        Outcome::Idle => println!(rt; "The processor is idle."),
-        Outcome::Violated(found) => show_violation(rt, found),
-        Outcome::Stalled(found) => {
-            rt.println("The processor stalls.")?;
-            show_violation(rt, found)
-        }
-        Outcome::NotCarried => println!(rt; "A code is not carried."),
-        Outcome::Done => println!(rt; "An instruction is done."),
-    }
-}
-
-/// The key table, word by word.
-pub(crate) fn show_keys(rt: &HostRuntime, hall: &mut Hall<'_>) -> io::Result<()> {
-    print!(rt; "The key table at 0x0300 holds")?;
-    let mut lost = 0u8;
-    for (address, key) in hall::KEYS {
-        let word = word_at(hall, address);
-        print!(rt; " 0x{word:04x}")?;
-        if word != key {
-            lost = lost.saturating_add(1);
-        }
-    }
-    match lost {
-        0 => println!(rt; ": every key is as it was."),
-        1 => println!(rt; ": one key is lost."),
-        _ => println!(rt; ": {lost} keys are lost."),
-    }
+/// The processor that the story is of, and the runtime by which it is told.
+#[derive(Drop)]
+pub(crate) struct Teller<'r, 'm, R> {
+    pub(crate) rt: &'r R,
+    pub(crate) processor: &'r mut Processor<Running, Core<'m>>,
 }
 
 // A byte as a character, or a dot where it is none that prints.
-fn printed(byte: u16) -> char {
-    match u8::try_from(byte) {
-        Ok(byte) if byte >= 32 && byte < 127 => byte as char,
+fn printed(byte: u8) -> char {
+    match byte {
+        b' '..=b'~' => byte as char,
         _ => '.',
     }
 }
 
-/// The line of the print program.
-pub(crate) fn show_line(rt: &HostRuntime, hall: &mut Hall<'_>) -> io::Result<()> {
-    let start = hall::LINE;
-    print!(rt; "The line at 0x{start:04x} reads \"")?;
-    for i in 0..16u16 {
-        let word = word_at(hall, start.wrapping_add(i));
-        let first = printed(word / 256);
-        let second = printed(word % 256);
-        print!(rt; "{first}{second}")?;
+impl<R: Print> Teller<'_, '_, R> {
+    // The word at an address, of which the memory has more than the story names.
+    fn word_at(&mut self, address: u16) -> u16 {
+        self.processor.word(address).unwrap_or(0)
     }
-    println!(rt; "\".")
-}
 
-/// How often a level has run, as the foreground counts it.
-pub(crate) fn show_count(rt: &HostRuntime, hall: &mut Hall<'_>, level: u8) -> io::Result<()> {
-    let address = hall::COUNTS.wrapping_add(level as u16);
-    let count = word_at(hall, address);
-    println!(rt; "The count of level {level}, at 0x{address:04x}, is 0x{count:04x}.")
-}
+    // Where the next instruction is.
+    fn place(&self) -> u16 {
+        self.processor.registers()[hall::P as usize]
+    }
 
-/// A signal to a level.
-pub(crate) fn show_signal(rt: &HostRuntime, hall: &mut Hall<'_>, level: u8) -> io::Result<()> {
-    print!(rt; "A signal to level {level} ")?;
-    match hall.signal(level) {
-        Ok(Signalled::Waiting) => println!(rt; "waits."),
-        Ok(Signalled::Dropped) => println!(rt; "is dropped."),
-        Err(refusal) => {
-            let number = refusal.number();
-            println!(rt; "is refused by {number}.")
+    // The key table, word by word.
+    fn show_keys(&mut self) -> io::Result<()> {
+        print!(self.rt; "The key table at 0x0300 holds")?;
+        let held = hall::KEYS.map(|(address, _)| self.word_at(address));
+        for word in held {
+            print!(self.rt; " 0x{word:04x}")?;
+        }
+        let lost = hall::KEYS
+            .into_iter()
+            .zip(held)
+            .filter(|((_, key), word)| key != word)
+            .count();
+        match lost {
+            0 => println!(self.rt; ": every key is as it was."),
+            1 => println!(self.rt; ": one key is lost."),
+            _ => println!(self.rt; ": {lost} keys are lost."),
         }
     }
-}
 
-/// The next instruction.
-pub(crate) fn show_place(rt: &HostRuntime, hall: &Hall<'_>) -> io::Result<()> {
-    let place = hall.registers()[1];
-    println!(rt; "The next instruction is at 0x{place:04x}.")
+    // The line of the print program.
+    fn show_line(&mut self) -> io::Result<()> {
+        let start = hall::LINE;
+        print!(self.rt; "The line at 0x{start:04x} reads \"")?;
+        for address in start..start + 16 {
+            for byte in self.word_at(address).to_be_bytes() {
+                self.rt.print(printed(byte))?;
+            }
+        }
+        println!(self.rt; "\".")
+    }
+
+    // How often a level has run, as the foreground counts it.
+    fn show_count(&mut self, level: u8) -> io::Result<()> {
+        let address = hall::COUNTS + u16::from(level);
+        let count = self.word_at(address);
+        println!(self.rt; "The count of level {level}, at 0x{address:04x}, is 0x{count:04x}.")
+    }
+
+    // The next instruction.
+    fn show_place(&self) -> io::Result<()> {
+        println!(self.rt; "The next instruction is at 0x{:04x}.", self.place())
+    }
+
+    // A signal to a level.
+    fn signal(&mut self, level: u8) -> io::Result<()> {
+        match self.processor.signal(level) {
+            Ok(Signalled::Waiting) => println!(self.rt; "A signal to level {level} waits."),
+            Ok(Signalled::Dropped) => println!(self.rt; "A signal to level {level} is dropped."),
+            Err(refusal) => println!(self.rt;
+                "A signal to level {level} is refused by {}.",
+                refusal.number()
+            ),
+        }
+    }
+
+    // Steps until a step is something else than an instruction done, or until the print program rests.
+    fn print_line(&mut self) -> io::Result<()> {
+        for done in 0..200u8 {
+            if self.place() == hall::REST {
+                return println!(self.rt; "The print program does {done} instructions, and rests.");
+            }
+            let outcome = self.processor.step();
+            if outcome != Outcome::Done {
+                println!(self.rt; "The print program does {done} instructions.")?;
+                return self.rt.println(Step(outcome));
+            }
+        }
+        println!(self.rt; "The print program does not rest.")
+    }
+
+    // Steps until the print program rests again, and counts.
+    fn foreground(&mut self, level: u8) -> io::Result<()> {
+        self.rt.println(Step(self.processor.step()))?;
+        for _ in 0..20 {
+            if self.place() == hall::REST {
+                break;
+            }
+            let _ = self.processor.step();
+        }
+        self.show_count(level)?;
+        self.show_place()
+    }
+
+    // A signal to a level, and a second one while the first waits.
+    fn signal_twice(&mut self, level: u8) -> io::Result<()> {
+        self.signal(level)?;
+        self.signal(level)?;
+        self.foreground(level)
+    }
+
+    /// The whole story.
+    pub(crate) fn tell(&mut self) -> io::Result<()> {
+        self.show_keys()?;
+        self.print_line()?;
+        if self.processor.violation().is_some() {
+            self.show_keys()?;
+            self.foreground(0)?;
+        }
+        self.show_line()?;
+        self.show_keys()?;
+        for level in [5, 9, 5] {
+            self.signal_twice(level)?;
+        }
+        self.show_keys()
+    }
 }

@@ -5,11 +5,23 @@ mod sums;
 
 use engine::{Idle, Processor, Running};
 use memory::Core;
-use std::{env, io};
+use std::rt::Env;
+use std::{env, fmt, io};
 use sums::Sums;
 
 // The steps of one run.
 const STEPS: u32 = 1_000_000;
+
+// How many runs there are where none are asked for.
+const RUNS: u32 = 20;
+
+// The numbers of the registers P and X2.
+const P: u8 = 1;
+
+const X2: u8 = 5;
+
+// The registers before the first run: P is at the start of the loop, and X2 has a base.
+const REGISTERS: [(u8, u16); 2] = [(P, 0x0200), (X2, 0x0300)];
 
 // The loop and its data: addresses and words. No page is protected, so all of it is background.
 const LOOP: [(u16, u16); 17] = [
@@ -32,17 +44,32 @@ const LOOP: [(u16, u16); 17] = [
     (0x0350, 0x0101), // what is taken away
 ];
 
-// Puts the loop into memory, P at its start and the base into X2.
+// The registers in their order.
+#[derive(Drop)]
+struct Registers([u16; 8]);
+
+impl fmt::Display for Registers {
+    fn fmt<W: fmt::Write>(&self, f: &mut fmt::Formatter<W>) -> fmt::Result {
+        f.write_str("registers")?;
+        for word in &self.0 {
+            write!(f, " {word:04x}")?;
+        }
+        Ok(())
+    }
+}
+
+// Puts the loop into memory, and sets the registers.
 fn prepare(processor: &mut Processor<Idle, Core<'_>>) {
     for (address, word) in LOOP {
         let _ = processor.deposit_word(address, word);
     }
-    let _ = processor.deposit_register(1, 0x0200);
-    let _ = processor.deposit_register(5, 0x0300);
+    for (number, word) in REGISTERS {
+        let _ = processor.deposit_register(number, word);
+    }
 }
 
 fn run_all(processor: &mut Processor<Running, Core<'_>>, runs: u32) -> Sums {
-    let mut sums = Sums::new();
+    let mut sums = Sums::default();
     for _ in 0..runs {
         if let Ok(counts) = processor.run(STEPS) {
             sums.count(counts);
@@ -52,12 +79,10 @@ fn run_all(processor: &mut Processor<Running, Core<'_>>, runs: u32) -> Sums {
     sums
 }
 
-// How many runs are asked for: the first argument, or 20.
-fn runs_asked(rt: &HostRuntime) -> io::Result<u32> {
-    match env::args(rt)?.nth(1) {
-        Some(text) => Ok(text.as_str().parse::<u32>().unwrap_or(20)),
-        None => Ok(20),
-    }
+// How many runs are asked for by the first argument.
+fn runs_asked(rt: &(impl Env + AllocGlobal)) -> io::Result<u32> {
+    let asked = env::args(rt)?.nth(1);
+    Ok(asked.and_then(|text| text.parse().ok()).unwrap_or(RUNS))
 }
 
 fn main(rt: HostRuntime) -> io::Result<()> {
@@ -67,13 +92,9 @@ fn main(rt: HostRuntime) -> io::Result<()> {
     prepare(&mut idle);
     let mut running = idle.go(true);
     let mut sums = run_all(&mut running, runs);
-    let registers = running.registers();
+    let registers = Registers(running.registers());
     sums.mix(running.halt().into_memory().into_words());
     println!(rt; "{runs} runs of {STEPS} steps")?;
     println!(rt; "{sums}")?;
-    print!(rt; "registers")?;
-    for word in registers {
-        print!(rt; " {word:04x}")?;
-    }
-    println!(rt; "")
+    println!(rt; "{registers}")
 }

@@ -1,51 +1,44 @@
 //! What is taken and what is refused, with the number of the refusal.
+use crate::start::{Register, SIZE, Start, ZEROS};
+use crate::text::{Answer, Ran};
 use engine::{Processor, Running};
-use machine::{Counts, Refusal};
-use memory::{Core, Plan};
+use memory::{Core, Plan, PlanRefusal};
 use std::io;
 
-fn try_plan(rt: &HostRuntime, plan: &mut Plan, block: u8, portion: u8) -> io::Result<()> {
-    print!(rt; "plan: block {block} to portion {portion} is ")?;
-    match plan.set(block, portion) {
-        Ok(()) => println!(rt; "taken"),
-        Err(refusal) => {
-            let number = refusal.number();
-            println!(rt; "refused by {number}")
-        }
-    }
+fn try_plan(rt: &impl Print, plan: &mut Plan, block: u8, portion: u8) -> io::Result<()> {
+    let set = plan.set(block, portion);
+    let answer = Answer(set.map(|()| "taken").map_err(PlanRefusal::number));
+    println!(rt; "plan: block {block} to portion {portion} is {answer}")
 }
 
-fn show_run(rt: &HostRuntime, steps: u32, answer: Result<Counts, Refusal>) -> io::Result<()> {
-    print!(rt; "run {steps} is ")?;
-    match answer {
-        Ok(counts) => {
-            let done = counts.done;
-            println!(rt; "taken: {done} done")
-        }
-        Err(refusal) => {
-            let number = refusal.number();
-            println!(rt; "refused by {number}")
-        }
-    }
+fn try_run(
+    rt: &impl Print,
+    processor: &mut Processor<Running, Core<'_>>,
+    steps: u32,
+) -> io::Result<()> {
+    let answer = Answer::from(processor.run(steps).map(Ran));
+    println!(rt; "run {steps} is {answer}")
 }
 
-// A run at the limit and one past it.
-fn try_runs(rt: &HostRuntime, processor: &mut Processor<Running, Core<'_>>) -> io::Result<()> {
-    show_run(rt, 1_000_000, processor.run(1_000_000))?;
-    show_run(rt, 1_000_001, processor.run(1_000_001))
+// A run at the limit and one past it, of an instruction that branches to itself.
+fn try_runs(rt: &(impl Print + AllocGlobal)) -> io::Result<()> {
+    let start = Start {
+        registers: &[(Register::P, 0x0200)],
+        words: &[(0x0200, 0x4800)],
+        protect: true,
+        ..ZEROS
+    };
+    let mut words = vec![in rt.alloc(); 0u16; SIZE]?;
+    start.go(&mut words, |processor| {
+        try_run(rt, processor, 1_000_000)?;
+        try_run(rt, processor, 1_000_001)
+    })
 }
 
-pub(crate) fn run(rt: &HostRuntime) -> io::Result<()> {
+pub(crate) fn run(rt: &(impl Print + AllocGlobal)) -> io::Result<()> {
     let mut plan = Plan::new();
-    try_plan(rt, &mut plan, 3, 9)?;
-    try_plan(rt, &mut plan, 4, 9)?;
-    let mut words = vec![in rt.alloc(); 0u16; 8192]?;
-    let mut idle = Processor::new(Core::new(&mut words));
-    // B to itself.
-    let _ = idle.deposit_word(0x0200, 0x4800);
-    let _ = idle.deposit_register(1, 0x0200);
-    let mut running = idle.go(true);
-    let shown = try_runs(rt, &mut running);
-    let _ = running.halt().into_memory();
-    shown
+    for block in [3, 4] {
+        try_plan(rt, &mut plan, block, 9)?;
+    }
+    try_runs(rt)
 }

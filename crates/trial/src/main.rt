@@ -6,19 +6,18 @@ mod case;
 mod instructions;
 mod interrupts;
 mod limits;
+mod start;
+mod text;
 
 use std::io;
 
 fn main(rt: HostRuntime) -> io::Result<()> {
-    for one in &instructions::CASES {
-        case::carry_out(&rt, &one.case())?;
+    for case in instructions::CASES {
+        case.carry_out(&rt)?;
     }
     addresses::run(&rt)?;
-    case::carry_out(&rt, &interrupts::STORE)?;
-    case::carry_out(&rt, &interrupts::STALL)?;
-    case::carry_out(&rt, &interrupts::ENTRY_AND_EXIT)?;
-    case::carry_out(&rt, &interrupts::EXIT_SWITCH_OFF)?;
-    case::carry_out(&rt, &interrupts::INHIBITED)?;
-    case::carry_out(&rt, &interrupts::EXTERNAL)?;
+    for case in interrupts::CASES {
+        case.carry_out(&rt)?;
+    }
     limits::run(&rt)
 }

@@ -1,6 +1,6 @@
 use Rattle.std.proofs.Common.{◌≡◌, get_or, sym, refl, ap, ◌∙◌, arith}
 use Rattle.memory.specs.Wide.{adapted, half, place}
-use Rattle.memory.proofs.Fetches.{fetched_word, fetched_absent}
+use Rattle.memory.proofs.Fetches.{fetched_word}
 use Rattle.memory.proofs.Wides.{place_fits, get_or_adapted}
 use Rattle.memory.proofs.wide_memory.AdaptorMemory.fetch.Goals as goal
 
@@ -21,7 +21,3 @@ returns-then-address-size c =
       outside = refl;
     }
 
-pub returns-else-address-size : goal.returns-else-address-size
-returns-else-address-size c =
-    let m = c.args.self.now in
-    record { answer = sym (fetched_absent (adapted m.plan.now.portions m.words.now) c.args.address (omega arith)); same = refl; outside = refl }

@@ -1,5 +1,4 @@
-use Rattle.std.proofs.Common.{◌≡◌, ◌<◌, length, get_or, set, sym, refl, ap, ◌∙◌, arith}
-use Rattle.std.proofs.lemmas.List.{set_past}
+use Rattle.std.proofs.Common.{◌≡◌, ◌<◌, length, get_or, set, ap, ◌∙◌, arith}
 use Rattle.memory.specs.Outer.{wide}
 use Rattle.memory.specs.Wide.{adapted, place, merged, unreached}
 use Rattle.memory.proofs.Wides.{place_fits, adapted_set, unreached_set}
@@ -31,7 +30,3 @@ returns-then-address-size c =
       outside = ap (λ i. wide m.words.ghost_name ps (unreached ps (set ws i x))) here ∙ ap (wide m.words.ghost_name ps) (unreached_set ps ws at x inside);
     }
 
-pub returns-else-address-size : goal.returns-else-address-size
-returns-else-address-size c =
-    let m = c.args.self.now in
-    record { after = sym (set_past (adapted m.plan.now.portions m.words.now) c.args.address c.args.word (omega arith)); outside = refl }

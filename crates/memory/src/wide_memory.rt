@@ -4,8 +4,8 @@ ghost use Rattle.memory.specs.Outer.{outer_wide};
 ghost use Rattle.memory.specs.Sizes.{adapted_sized};
 ghost use Rattle.memory.specs.Wide.{lead, place, half, merged, adapted};
 
-use crate::portions::Plan;
 use crate::Memory;
+use crate::portions::Plan;
 
 // The addresses of a block.
 const BLOCK: u16 = 8192;

@@ -1,11 +1,11 @@
 // Adaptor memory: 16-bit words in the caller's 32-bit words, by a plan.
-ghost use Rattle.std.specs.Prelude.{◌≡◌};
+ghost use Rattle.std.specs.Prelude.{◌≡◌, ◌<◌, ◌↔◌, length, IsSome, IfSome};
 ghost use Rattle.memory.specs.Outer.{outer_wide};
 ghost use Rattle.memory.specs.Sizes.{adapted_sized};
 ghost use Rattle.memory.specs.Wide.{lead, place, half, merged, adapted};
 
-use crate::portions::Plan;
 use crate::Memory;
+use crate::portions::Plan;
 
 // The addresses of a block.
 const BLOCK: u16 = 8192;
@@ -28,13 +28,6 @@ fn leading(plan: &Plan, len: usize) -> u32
         .iter()
         .take_while(|portion| PORTION * (**portion as usize + 1) <= len)
         .count() as u32
-}
-
-// Which 32-bit word an address lies in.
-fn place_of(plan: &Plan, address: u16) -> usize
-    ensures { result ≡ place plan.now.portions address }
-{
-    PORTION * plan.portion((address / BLOCK) as u8) as usize + (address % BLOCK / 2) as usize
 }
 
 // The half of a 32-bit word that an address means: the left half for an even one.
@@ -75,6 +68,19 @@ impl<'a, 'b> Adaptor<'a, 'b> {
         let Adaptor { words, plan: _ } = self;
         words
     }
+
+    // Which 32-bit word an address below the size lies in.
+    fn place(&self, address: u16) -> Option<usize>
+        ensures below { IsSome result ↔ (address < length (adapted self.now.plan.now.portions self.now.words.now)) }
+        ensures value { IfSome result (λ i. i ≡ place self.now.plan.now.portions address) }
+        ensures within { IfSome result (λ i. i < length self.now.words.now) }
+    {
+        if (address as u32) >= self.size() {
+            return None;
+        }
+        let portion = self.plan.portion((address / BLOCK) as u8);
+        Some(PORTION * portion as usize + (address % BLOCK / 2) as usize)
+    }
 }
 
 impl Memory for Adaptor<'_, '_> {
@@ -89,19 +95,13 @@ impl Memory for Adaptor<'_, '_> {
     }
 
     fn fetch(&mut self, address: u16) -> Option<u16> {
-        if (address as u32) < self.size() {
-            let place = place_of(self.plan, address);
-            Some(half_of(self.words[place], address))
-        } else {
-            None
-        }
+        let place = self.place(address)?;
+        Some(half_of(self.words[place], address))
     }
 
     fn store(&mut self, address: u16, word: u16) {
-        if (address as u32) < self.size() {
-            let place = place_of(self.plan, address);
-            let wide = with_half(self.words[place], address, word);
-            self.words[place] = wide;
+        if let Some(place) = self.place(address) {
+            self.words[place] = with_half(self.words[place], address, word);
         }
     }
 }

@@ -1,5 +1,5 @@
 // Adaptor memory by plans that are not new.
-use crate::tries::show;
+use crate::tries::{Fetched, show};
 use memory::{Adaptor, Memory, Plan};
 use std::io;
 
@@ -7,14 +7,12 @@ use std::io;
 const MARK: u32 = 10 * 65536 + 20;
 
 fn show_changed(rt: &HostRuntime, words: &[u32]) -> io::Result<()> {
-    let mut place = 0usize;
-    for word in words {
+    for (place, word) in words.iter().enumerate() {
         if *word != MARK {
             let left = *word / 65536;
             let right = *word % 65536;
             print!(rt; "; 32-bit word {place} is now {left}, {right}")?;
         }
-        place = place.saturating_add(1);
     }
     println!(rt; "")
 }
@@ -26,9 +24,9 @@ fn try_edge(rt: &HostRuntime) -> io::Result<()> {
     let _ = plan.exchange(0, 2);
     let _ = plan.exchange(1, 2);
     let mut memory = Adaptor::new(&mut words, &plan);
-    let below = memory.fetch(8191);
-    let above = memory.fetch(8192);
-    println!(rt; "adaptor memory of three blocks: fetched at 8191 {below:?}, at 8192 {above:?}")?;
+    let below = Fetched(memory.fetch(8191));
+    let above = Fetched(memory.fetch(8192));
+    println!(rt; "adaptor memory of three blocks: fetched at 8191 {below}, at 8192 {above}")?;
     print!(rt; "adaptor memory of three blocks: ")?;
     show(rt, &mut memory, &[8191, 8192, 24576])?;
     show_changed(rt, memory.into_words())

@@ -20,13 +20,11 @@ fn store_through<'a>(words: &'a mut [u16], address: u16, word: u16) -> &'a mut [
 
 // How many words behind the size are not as they were.
 fn changed_behind(words: &[u16], size: u32) -> usize {
-    let mut changed = 0usize;
-    for word in words.iter().skip(size as usize) {
-        if *word != MARK {
-            changed = changed.saturating_add(1);
-        }
-    }
-    changed
+    words
+        .iter()
+        .skip(size as usize)
+        .filter(|word| **word != MARK)
+        .count()
 }
 
 fn try_length(rt: &HostRuntime, len: usize) -> io::Result<()> {

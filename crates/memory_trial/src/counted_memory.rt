@@ -3,7 +3,7 @@ ghost use Rattle.std.specs.Prelude.{◌≡◌, ℕ, ◌+◌, length, replicate};
 ghost use Rattle.memory.specs.Outer.{nothing};
 ghost use Rattle.memory_trial.specs.Full.{full_sized};
 
-use memory::{Fetched, Memory};
+use memory::Memory;
 
 #[derive(Drop)]
 pub(crate) struct Counted {
@@ -41,13 +41,9 @@ impl Memory for Counted {
         8192
     }
 
-    fn fetch(&mut self, address: u16) -> Fetched {
+    fn fetch(&mut self, address: u16) -> Option<u16> {
         self.fetches = self.fetches.saturating_add(1);
-        if address < 8192 {
-            Fetched::Word(self.words[address as usize])
-        } else {
-            Fetched::Absent
-        }
+        self.words.get(address as usize).copied()
     }
 
     fn store(&mut self, address: u16, word: u16) {

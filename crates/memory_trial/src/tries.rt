@@ -2,11 +2,24 @@
 ghost use Rattle.std.specs.Prelude.{◌≡◌, ◌-◌, length, slice_set};
 ghost use Rattle.memory.specs.Fetches.{fetched_at};
 
-use memory::{Fetched, Memory};
-use std::io;
+use memory::Memory;
+use std::{fmt, io};
+
+// What a fetch answered, for the reader: the word, or that there is none.
+#[derive(Clone, Copy)]
+pub(crate) struct Fetched(pub(crate) Option<u16>);
+
+impl fmt::Display for Fetched {
+    fn fmt<W: fmt::Write>(&self, f: &mut fmt::Formatter<W>) -> fmt::Result {
+        match self.0 {
+            Some(word) => write!(f, "Word({word})"),
+            None => write!(f, "Absent"),
+        }
+    }
+}
 
 // A store, and then a fetch at the same address.
-pub(crate) fn tried<M: Memory>(memory: &mut M, address: u16, word: u16) -> Fetched
+pub(crate) fn tried<M: Memory>(memory: &mut M, address: u16, word: u16) -> Option<u16>
     ensures answer { result ≡ fetched_at (slice_set (M.words memory.old) address word) address }
     ensures after { M.words memory.new ≡ slice_set (M.words memory.old) address word }
     ensures outside { M.outer memory.new ≡ M.outer memory.old }
@@ -30,11 +43,9 @@ pub(crate) fn show<M: Memory>(
 ) -> io::Result<()> {
     let size = memory.size();
     print!(rt; "size {size}")?;
-    let mut word = 1u16;
-    for address in addresses {
-        let fetched = tried(memory, *address, word);
-        print!(rt; ", at {address} {fetched:?}")?;
-        word = word.wrapping_add(1);
+    for (address, word) in addresses.iter().zip(1u16..) {
+        let fetched = Fetched(tried(memory, *address, word));
+        print!(rt; ", at {address} {fetched}")?;
     }
     Ok(())
 }

@@ -126,8 +126,7 @@ pub fn trace(
         }
         Err(fault) => {
             drop(processor.into_memory());
-            let refused = fault_line(heap, fault)?;
-            format!(in heap; "{refused}\n")
+            format!(in heap; "{}\n", fault_line(heap, fault)?)
         }
     }
 }

@@ -14,7 +14,7 @@ use Rattle.engine.specs.Loads.{loaded}
 use Rattle.engine.specs.View.{seen}
 use Rattle.listing.specs.Listing.{blank, line}
 use Rattle.listing.specs.Text.{fault_line}
-use Rattle.console.specs.declared.traces.Signal.{Signal}
+use Rattle.console.specs.declared.signals.Signal.{Signal}
 use Rattle.console.specs.declared.traces.Tracer.{Tracer}
 use Rattle.console.specs.Lines.{counts_line, signal_line, step_line, violation_line}
 

@@ -5,18 +5,12 @@ ghost use Rattle.engine.specs.View.{seen};
 ghost use Rattle.console.specs.Traces.{at, begun, ended, signal_at, signals_at, step_at, trace_of, trace_text};
 
 use crate::lines::{counts_line, signal_line, step_line, violation_line};
+use crate::signals::Signal;
 use engine::{Processor, Running};
 use listing::{fault_line, first};
 use machine::{Counts, Refusal};
 use memory::{Core, Memory};
 use std::alloc::{AllocError, Global};
-
-/// A signal to a level, before a step; steps are counted from 0.
-#[derive(Clone, Copy)]
-pub struct Signal {
-    pub step: u32,
-    pub level: u8,
-}
 
 // A trace so far: the processor that makes it, its text, and what its steps were.
 #[derive(Drop)]

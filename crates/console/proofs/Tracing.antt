@@ -10,11 +10,12 @@ use Rattle.machine.specs.declared.refusal.Refusal.{Refusal}
 use Rattle.machine.specs.Calls.{after_call, gone, signal_answer, tallied, total}
 use Rattle.machine.specs.State.{Machine, registers}
 use Rattle.machine.specs.Step.{step}
+use Rattle.machine.specs.Text.{counts_line}
 use Rattle.machine.proofs.Tallies.{total_tallied}
 use Rattle.image.specs.Reading.{verdict}
 use Rattle.listing.specs.Listing.{line}
 use Rattle.console.specs.declared.traces.Signal.{Signal}
-use Rattle.console.specs.Lines.{counts_line, signal_line, step_line, violation_line}
+use Rattle.console.specs.Lines.{signal_line, step_line, violation_line}
 use Rattle.console.specs.Traces.{Traced, begun, ended, signal_if, signals_at, step_at, trace_of, trace_report, trace_text, traced}
 use Rattle.console.proofs.Loads.{Loaded}
 

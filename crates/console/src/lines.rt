@@ -1,27 +1,17 @@
 //! The lines of a trace, each without its line feed.
 ghost use Rattle.std.specs.Prelude.{◌≡◌, IfOk, string_bytes};
-ghost use Rattle.console.specs.Lines.{change as changed, changes as all_changes, counts_line, kind_name, outcome_text, signal_line, signalled_name, step_line, violation_line, violation_text};
+ghost use Rattle.console.specs.Lines.{change as changed, changes as all_changes, outcome_text, signal_line, step_line, violation_line, violation_text};
+ghost use Rattle.machine.specs.Text.{counts_line};
 
 use listing::Hex;
-use machine::{Counts, Outcome, Refusal, Signalled, Violation, ViolationKind};
+use machine::{Counts, Outcome, Refusal, Signalled, Violation};
 use std::alloc::{AllocError, Global};
-
-// The kind of a violation as a word.
-fn kind_name(kind: ViolationKind) -> &'static str
-    ensures { result.now ≡ kind_name kind }
-{
-    match kind {
-        ViolationKind::Entry => "entry",
-        ViolationKind::Operation => "operation",
-        ViolationKind::Store => "store",
-    }
-}
 
 // A violation: its kind, its place and its aim.
 fn violation_text(heap: Global, violation: Violation) -> Result<String, AllocError>
     ensures { IfOk result (λ s. string_bytes s ≡ violation_text violation) }
 {
-    let kind = kind_name(violation.kind);
+    let kind = violation.kind;
     format!(in heap; "{kind} {} {}", Hex(violation.place), Hex(violation.aim))
 }
 
@@ -84,16 +74,6 @@ pub fn step_line(
     format!(in heap; "{number} {} {outcome}{changes}", Hex(before[1]))
 }
 
-// What a signal did, as a word.
-fn signalled_name(signalled: Signalled) -> &'static str
-    ensures { result.now ≡ signalled_name signalled }
-{
-    match signalled {
-        Signalled::Waiting => "waiting",
-        Signalled::Dropped => "dropped",
-    }
-}
-
 /// The line of a signal to a level, by what it answered.
 pub fn signal_line(
     heap: Global,
@@ -103,7 +83,7 @@ pub fn signal_line(
     ensures { IfOk result (λ s. string_bytes s ≡ signal_line level answer) }
 {
     match answer {
-        Ok(signalled) => format!(in heap; "signal {level} {}", signalled_name(signalled)),
+        Ok(signalled) => format!(in heap; "signal {level} {signalled}"),
         Err(refusal) => {
             let number = refusal.number();
             format!(in heap; "signal {level} refused {number}")
@@ -115,15 +95,7 @@ pub fn signal_line(
 pub fn counts_line(heap: Global, counts: Counts) -> Result<String, AllocError>
     ensures { IfOk result (λ s. string_bytes s ≡ counts_line counts) }
 {
-    let Counts {
-        done,
-        not_carried,
-        violations,
-        stalls,
-        entries,
-        idles,
-    } = counts;
-    format!(in heap; "{done} {not_carried} {violations} {stalls} {entries} {idles}")
+    format!(in heap; "{counts}")
 }
 
 /// The line of the latest violation.

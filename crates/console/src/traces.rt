@@ -4,7 +4,7 @@ ghost use Rattle.machine.specs.Calls.{Room};
 ghost use Rattle.engine.specs.View.{seen};
 ghost use Rattle.console.specs.Traces.{at, begun, ended, signal_at, signals_at, step_at, trace_of, trace_text};
 
-use crate::lines::{counts_line, signal_line, step_line, violation_line};
+use crate::lines::{signal_line, step_line, violation_line};
 use crate::signals::Signal;
 use engine::{Processor, Running};
 use listing::{fault_line, first};
@@ -72,9 +72,8 @@ impl<'a, M: Memory> Tracer<'a, M> {
     fn end(&self) -> Result<String, AllocError>
         ensures { IfOk result (λ s. string_bytes s ≡ ended (at M.words self.now)) }
     {
-        let counts = counts_line(self.heap, self.counts)?;
         let violation = violation_line(self.heap, self.processor.violation())?;
-        format!(in self.heap; "{}{counts}\n{violation}\n", self.text)
+        format!(in self.heap; "{}{}\n{violation}\n", self.text, self.counts)
     }
 }
 

@@ -7,7 +7,7 @@ use Rattle.machine.specs.State.{Machine}
 use Rattle.machine.specs.Step.{step}
 use Rattle.machine.proofs.Tallies.{total_tallied}
 use Rattle.image.specs.Reading.{verdict}
-use Rattle.console.specs.declared.traces.Signal.{Signal}
+use Rattle.console.specs.declared.signals.Signal.{Signal}
 use Rattle.console.specs.Traces.{Traced, begun, ended, signal_at, signals_at, step_at, trace_of, trace_report, trace_text, traced}
 use Rattle.console.proofs.Loads.{Loaded}
 

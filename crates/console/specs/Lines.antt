@@ -1,22 +1,13 @@
 -- The lines of a trace, as lists of bytes without their line feeds.
 use Rattle.std.specs.Prelude.{ℕ, cond, List, [], ◌++◌, Some, None, Ok, Err, codes, decimal, Option, Result, ◌==◌, slice_index}
 use Rattle.listing.specs.Text.{hex}
-use Rattle.machine.specs.declared.call.Counts.{Counts}
 use Rattle.machine.specs.declared.call.Outcome.{Outcome}
 use Rattle.machine.specs.declared.call.Outcome.TheVariants.{Entered, Idle, Violated, Stalled, NotCarried, Done}
 use Rattle.machine.specs.declared.call.Signalled.{Signalled}
-use Rattle.machine.specs.declared.call.Signalled.TheVariants.{Waiting, Dropped}
 use Rattle.machine.specs.declared.refusal.Refusal.{Refusal}
 use Rattle.machine.specs.declared.state.Violation.{Violation}
-use Rattle.machine.specs.declared.state.ViolationKind.{ViolationKind}
-use Rattle.machine.specs.declared.state.ViolationKind.TheVariants.{Entry, Operation, Store}
 use Rattle.machine.specs.Refusals.{number}
-
--- the kind of a violation as a word
-abbrev pub kind_name : ViolationKind → List ℕ
-kind_name Entry = codes "entry"
-kind_name Operation = codes "operation"
-kind_name Store = codes "store"
+use Rattle.machine.specs.Text.{kind_name, signalled_name}
 
 -- a violation: its kind, the place that it came from, and its aim
 abbrev pub violation_text : Violation → List ℕ
@@ -46,12 +37,7 @@ changes rs qs =
 abbrev pub step_line : ℕ → Outcome → List ℕ → List ℕ → List ℕ
 step_line n o rs qs = decimal n ++ (codes " " ++ (hex (slice_index rs 1) ++ (codes " " ++ (outcome_text o ++ changes rs qs))))
 
--- what a signal did, as a word
-abbrev pub signalled_name : Signalled → List ℕ
-signalled_name Waiting = codes "waiting"
-signalled_name Dropped = codes "dropped"
-
--- the same, or the number by which the signal is refused
+-- what a signal did, or the number by which it is refused
 abbrev pub signal_text : Result Signalled Refusal → List ℕ
 signal_text (Ok x) = signalled_name x
 signal_text (Err x) = codes "refused " ++ decimal (number x)
@@ -59,12 +45,6 @@ signal_text (Err x) = codes "refused " ++ decimal (number x)
 -- a signal: its level and what became of it
 abbrev pub signal_line : ℕ → Result Signalled Refusal → List ℕ
 signal_line k r = codes "signal " ++ (decimal k ++ (codes " " ++ signal_text r))
-
--- how many steps were done, not carried, violations, stalls, entries and idle
-abbrev pub counts_line : Counts → List ℕ
-counts_line n =
-    decimal n.done ++ (codes " " ++ (decimal n.not_carried ++ (codes " " ++ (decimal n.violations ++ (codes " "
-    ++ (decimal n.stalls ++ (codes " " ++ (decimal n.entries ++ (codes " " ++ decimal n.idles)))))))))
 
 -- the latest violation, or that there was none
 abbrev pub violation_line : Option Violation → List ℕ

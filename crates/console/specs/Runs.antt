@@ -8,7 +8,7 @@ use Rattle.machine.specs.declared.call.Counts.{Counts}
 use Rattle.machine.specs.Calls.{counts_of, gone, run_trail}
 use Rattle.engine.specs.Loads.{loaded}
 use Rattle.listing.specs.Listing.{blank, line}
-use Rattle.console.specs.Lines.{counts_line}
+use Rattle.machine.specs.Text.{counts_line}
 
 -- the counts of n steps of a new processor over 8192 zero words, with the records loaded and the protect switch on
 unfoldable pub run_counts : ℕ → List Record → Counts

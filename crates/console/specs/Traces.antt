@@ -10,13 +10,14 @@ use Rattle.machine.specs.Calls.{after_call, gone, no_counts, signal_answer, tall
 use Rattle.machine.specs.Refusals.{number}
 use Rattle.machine.specs.State.{Machine, registers}
 use Rattle.machine.specs.Step.{step}
+use Rattle.machine.specs.Text.{counts_line}
 use Rattle.engine.specs.Loads.{loaded}
 use Rattle.engine.specs.View.{seen}
 use Rattle.listing.specs.Listing.{blank, line}
 use Rattle.listing.specs.Text.{fault_line}
-use Rattle.console.specs.declared.traces.Signal.{Signal}
+use Rattle.console.specs.declared.signals.Signal.{Signal}
 use Rattle.console.specs.declared.traces.Tracer.{Tracer}
-use Rattle.console.specs.Lines.{counts_line, signal_line, step_line, violation_line}
+use Rattle.console.specs.Lines.{signal_line, step_line, violation_line}
 
 -- a trace so far: its text, the counts of its steps, and the machine
 pub record Traced : Type 0 where

@@ -3,9 +3,11 @@
 
 mod lines;
 mod runs;
+mod signals;
 mod traces;
 
 pub use lines::{counts_line, signal_line, step_line, violation_line};
 pub use listing::LIMIT;
 pub use runs::run_line;
-pub use traces::{Signal, trace};
+pub use signals::{NoSignal, Signal};
+pub use traces::trace;

@@ -1,22 +1,12 @@
 //! The lines of a trace, each without its line feed.
 ghost use Rattle.std.specs.Prelude.{◌≡◌, ◌<◌, IfOk, Some, slice_index, string_bytes};
-ghost use Rattle.console.specs.Lines.{change as changed, changes as all_changes, counts_line, kind_name, outcome_text, signal_line, signalled_name, step_line, violation_line, violation_text};
+ghost use Rattle.console.specs.Lines.{change as changed, changes as all_changes, outcome_text, signal_line, step_line, violation_line, violation_text};
+ghost use Rattle.machine.specs.Text.{counts_line};
 
 use listing::Hex;
-use machine::{Counts, Outcome, Refusal, Signalled, Violation, ViolationKind};
+use machine::{Counts, Outcome, Refusal, Signalled, Violation};
 use std::alloc::{AllocError, Global};
 use std::fmt;
-
-// The kind of a violation as a word.
-fn kind_name(kind: ViolationKind) -> &'static str
-    ensures { result.now ≡ kind_name kind }
-{
-    match kind {
-        ViolationKind::Entry => "entry",
-        ViolationKind::Operation => "operation",
-        ViolationKind::Store => "store",
-    }
-}
 
 // A violation that is shown as its kind, its place and its aim.
 #[derive(Clone, Copy)]
@@ -27,7 +17,7 @@ impl fmt::Display for ViolationText {
 
     fn fmt<W: fmt::Write>(&self, f: &mut fmt::Formatter<W>) -> fmt::Result {
         let Violation { kind, place, aim } = self.0;
-        write!(f, "{} {} {}", kind_name(kind), Hex(place), Hex(aim))
+        write!(f, "{kind} {} {}", Hex(place), Hex(aim))
     }
 }
 
@@ -127,16 +117,6 @@ pub fn step_line(
     )
 }
 
-// What a signal did, as a word.
-fn signalled_name(signalled: Signalled) -> &'static str
-    ensures { result.now ≡ signalled_name signalled }
-{
-    match signalled {
-        Signalled::Waiting => "waiting",
-        Signalled::Dropped => "dropped",
-    }
-}
-
 /// The line of a signal to a level, by what it answered.
 pub fn signal_line(
     heap: Global,
@@ -146,7 +126,7 @@ pub fn signal_line(
     ensures { IfOk result (λ s. string_bytes s ≡ signal_line level answer) }
 {
     match answer {
-        Ok(signalled) => format!(in heap; "signal {level} {}", signalled_name(signalled)),
+        Ok(signalled) => format!(in heap; "signal {level} {signalled}"),
         Err(refusal) => format!(in heap; "signal {level} refused {}", refusal.number()),
     }
 }
@@ -155,15 +135,7 @@ pub fn signal_line(
 pub fn counts_line(heap: Global, counts: Counts) -> Result<String, AllocError>
     ensures { IfOk result (λ s. string_bytes s ≡ counts_line counts) }
 {
-    let Counts {
-        done,
-        not_carried,
-        violations,
-        stalls,
-        entries,
-        idles,
-    } = counts;
-    format!(in heap; "{done} {not_carried} {violations} {stalls} {entries} {idles}")
+    format!(in heap; "{counts}")
 }
 
 /// The line of the latest violation.

@@ -3,7 +3,6 @@ ghost use Rattle.std.specs.Prelude.{◌≡◌, IfOk, string_bytes};
 ghost use Rattle.image.specs.Reading.{verdict};
 ghost use Rattle.console.specs.Runs.{ran, run_line};
 
-use crate::lines::counts_line;
 use engine::Processor;
 use image::Fault;
 use listing::first;
@@ -39,7 +38,7 @@ pub fn run_line(heap: Global, bytes: &[u8]) -> Result<String, AllocError>
     ensures { IfOk result (λ s. string_bytes s ≡ run_line bytes.now) }
 {
     match run(first(bytes)) {
-        Ok(counts) => format!(in heap; "{}\n", counts_line(heap, counts)?),
+        Ok(counts) => format!(in heap; "{counts}\n"),
         Err(fault) => format!(in heap; "{}\n", fault.cause.number()),
     }
 }

@@ -4,19 +4,13 @@ ghost use Rattle.machine.specs.Calls.{Room};
 ghost use Rattle.engine.specs.View.{seen};
 ghost use Rattle.console.specs.Traces.{at, begun, ended, signal_at, signals_at, step_at, trace_of, trace_text};
 
-use crate::lines::{counts_line, signal_line, step_line, violation_line};
+use crate::lines::{signal_line, step_line, violation_line};
+use crate::signals::Signal;
 use engine::{Processor, Running};
 use listing::{fault_line, first};
 use machine::{Counts, Refusal};
 use memory::{Core, Memory};
 use std::alloc::{AllocError, Global};
-
-/// A signal to a level, before a step; steps are counted from 0.
-#[derive(Clone, Copy)]
-pub struct Signal {
-    pub step: u32,
-    pub level: u8,
-}
 
 // A trace so far: the processor that makes it, its text, and what its steps were.
 #[derive(Drop)]
@@ -78,9 +72,8 @@ impl<'a, M: Memory> Tracer<'a, M> {
     fn end(&self) -> Result<String, AllocError>
         ensures { IfOk result (λ s. string_bytes s ≡ ended (at M.words self.now)) }
     {
-        let counts = counts_line(self.heap, self.counts)?;
         let violation = violation_line(self.heap, self.processor.violation())?;
-        format!(in self.heap; "{}{counts}\n{violation}\n", self.text)
+        format!(in self.heap; "{}{}\n{violation}\n", self.text, self.counts)
     }
 }
 
@@ -126,8 +119,7 @@ pub fn trace(
         }
         Err(fault) => {
             drop(processor.into_memory());
-            let refused = fault_line(heap, fault)?;
-            format!(in heap; "{refused}\n")
+            format!(in heap; "{}\n", fault_line(heap, fault)?)
         }
     }
 }

@@ -7,3 +7,4 @@ pub mod Work
 pub mod Step
 pub mod Calls
 pub mod View
+pub mod Text

@@ -54,7 +54,7 @@ impl Counts {
 }
 
 /// A call of a running processor.
-#[derive(Clone, Copy)]
+#[derive(Clone, Copy, PartialEq, Eq, Debug)]
 pub enum Call {
     Step,
     Run(u32),
@@ -66,7 +66,7 @@ pub enum Call {
 }
 
 /// The answer to a call.
-#[derive(Clone, Copy)]
+#[derive(Clone, Copy, PartialEq, Eq, Debug)]
 pub enum Answer {
     Stepped(Outcome),
     Ran(Counts),

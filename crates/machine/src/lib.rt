@@ -8,6 +8,7 @@ mod protection;
 mod refusal;
 mod state;
 mod sum;
+mod text;
 mod work;
 
 pub use call::{Answer, Call, Counts, Outcome, Signalled};

@@ -1,9 +1,11 @@
 //! The protection registers.
-ghost use Rattle.std.specs.Prelude.{◌≡◌, ℕ, ◌<◌, replicate};
+ghost use Rattle.std.specs.Prelude.{◌≡◌, ℕ, List, replicate};
 ghost use Rattle.machine.specs.State.{protect_after, protect_answer, protection_word};
 ghost use Rattle.machine.specs.Words.{protects};
 
 use crate::refusal::Refusal;
+use levels::bit_of;
+use std::marker::Model;
 
 /// Sixteen registers with a bit for each page.
 #[derive(Clone, Copy)]
@@ -11,26 +13,33 @@ pub struct Protection {
     registers: [u16; 16],
 }
 
+impl Model for Protection {
+    ghost Value = { List ℕ };
+
+    ghost view = { λ p. p.registers };
+
+    ghost inverse = { λ rs. record { registers = rs } };
+}
+
 impl Protection {
     /// No page is protected.
     pub(crate) fn new() -> Protection
-        ensures { result.registers ≡ replicate 16 0 }
+        ensures { result ≡ replicate 16 0 }
     {
         Protection { registers: [0; 16] }
     }
 
     /// The sixteen registers.
     pub fn words(&self) -> [u16; 16]
-        ensures { result ≡ self.now.registers }
+        ensures { result ≡ self.now }
     {
-        let words = self.registers;
-        words
+        self.registers
     }
 
     /// Sets register 0 to 15.
     pub fn set(&mut self, number: u8, word: u16) -> Result<(), Refusal>
         ensures answer { result ≡ protect_answer number }
-        ensures after { self.new.registers ≡ protect_after number word self.old.registers }
+        ensures after { self.new ≡ protect_after number word self.old }
     {
         if number > 15 {
             return Err(Refusal::NoRegister);
@@ -41,20 +50,16 @@ impl Protection {
 
     /// Register 0 to 15; any other reads as 0.
     pub(crate) fn word(&self, number: u8) -> u16
-        ensures { result ≡ protection_word number self.now.registers }
+        ensures { result ≡ protection_word number self.now }
     {
-        if number > 15 {
-            0
-        } else {
-            self.registers[number as usize]
-        }
+        self.words().get(number as usize).copied().unwrap_or(0)
     }
 
     /// Whether an address lies in a protected page.
     pub(crate) fn protects(&self, address: u16) -> bool
-        ensures { result ≡ protects self.now.registers address }
+        ensures { result ≡ protects self.now address }
     {
         let page = address / 256;
-        (self.registers[(page / 16) as usize] >> (15 - page % 16)) % 2 == 1
+        bit_of(self.registers[(page / 16) as usize], (page % 16) as u8)
     }
 }

@@ -2,14 +2,14 @@
 ghost use Rattle.std.specs.Prelude.{◌≡◌};
 ghost use Rattle.machine.specs.Refusals.{number as numbered};
 
-/// The cause of a refusal.
+/// The cause of a refusal, by its number.
 #[derive(Clone, Copy, PartialEq, Eq, Debug)]
 pub enum Refusal {
-    NoRegister,
-    NoAddress,
-    NoLevel,
-    LevelZero,
-    RunTooLong,
+    NoRegister = 4,
+    NoAddress = 5,
+    NoLevel = 6,
+    LevelZero = 7,
+    RunTooLong = 8,
 }
 
 impl Refusal {
@@ -17,12 +17,6 @@ impl Refusal {
     pub fn number(self) -> u8
         ensures { result ≡ numbered self }
     {
-        match self {
-            Refusal::NoRegister => 4,
-            Refusal::NoAddress => 5,
-            Refusal::NoLevel => 6,
-            Refusal::LevelZero => 7,
-            Refusal::RunTooLong => 8,
-        }
+        self as u8
     }
 }

@@ -3,7 +3,7 @@ ghost use Rattle.std.specs.Prelude.{◌≡◌};
 ghost use Rattle.machine.specs.Arithmetic.{added, subtracted};
 
 /// A 16-bit result with its carry, or borrow, and its overflow.
-#[derive(Clone, Copy)]
+#[derive(Clone, Copy, PartialEq, Eq, Debug)]
 pub struct Sum {
     pub word: u16,
     pub carry: bool,
@@ -29,12 +29,11 @@ pub fn add(a: u16, b: u16, plus_one: bool) -> Sum
 pub fn subtract(a: u16, b: u16) -> Sum
     ensures { result ≡ subtracted a b }
 {
-    let word = a.wrapping_sub(b);
-    let minus = a >= 0x8000;
-    let overflow = (b >= 0x8000) != minus && (word >= 0x8000) != minus;
+    let (word, borrow) = a.overflowing_sub(b);
+    let (_, overflow) = a.cast_signed().overflowing_sub(b.cast_signed());
     Sum {
         word,
-        carry: a < b,
+        carry: borrow,
         overflow,
     }
 }

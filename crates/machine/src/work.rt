@@ -51,16 +51,7 @@ impl Work {
     pub fn register(&self, number: u8) -> u16
         ensures { result ≡ register number self.now }
     {
-        match number {
-            1 => self.p,
-            2 => self.l,
-            3 => self.t,
-            4 => self.x1,
-            5 => self.x2,
-            6 => self.e,
-            7 => self.a,
-            _ => 0,
-        }
+        self.registers().get(number as usize).copied().unwrap_or(0)
     }
 
     /// Sets O and C by a sum.
@@ -111,27 +102,23 @@ impl Work {
         ensures { self.new ≡ copied transfer self.old }
     {
         let value = self.register(transfer.source);
-        let source = if transfer.invert {
-            65535 - value
-        } else {
-            value
-        };
+        let source = if transfer.invert { !value } else { value };
         let old = if transfer.clear {
             0
         } else {
             self.register(transfer.destination)
         };
         let plus_one = transfer.plus_one || transfer.carry && self.c;
-        let result = match transfer.join {
-            Join::And => (old & source).wrapping_add(plus_one as u16),
-            Join::Or => (old | source).wrapping_add(plus_one as u16),
-            Join::ExclusiveOr => (old ^ source).wrapping_add(plus_one as u16),
+        let joined = match transfer.join {
+            Join::And => old & source,
+            Join::Or => old | source,
+            Join::ExclusiveOr => old ^ source,
             Join::Add => {
-                let sum = add(old, source, plus_one);
-                self.flag(sum);
-                sum.word
+                self.flag(add(old, source, plus_one));
+                old.wrapping_add(source)
             }
         };
+        let result = joined.wrapping_add(plus_one as u16);
         let _ = self.put(transfer.destination, result);
     }
 }

@@ -6,11 +6,12 @@
 //! over the violation by its status words at 0600 and exits; level 5 exits at once by those at 0700.
 #![tactic(auto)]
 
-ghost use Rattle.std.specs.Prelude.{◌≡◌, ◌<◌, length, IfSome, if◌then◌else◌, codes, OnSome};
+ghost use Rattle.std.specs.Prelude.{◌≡◌, ◌≢◌, IfSome, MatchResult, drop, if◌then◌else◌, codes, is_some, slice_get, string_bytes};
 
 use console::Signal;
 use std::alloc::{AllocError, Global};
 use std::io::Read;
+use std::str::FromStr;
 use std::{env, io};
 
 // What the arguments ask for.
@@ -21,61 +22,57 @@ struct Arguments {
     signals: Vec<Signal>,
 }
 
-// A number of steps, if it stands there.
-fn steps_at(words: &[String], place: usize) -> Option<u32>
-    ensures { OnSome result (place < length words.now) }
-{
-    words.get(place)?.as_str().parse().ok()
-}
+// The state of the protect switch.
+#[derive(Clone, Copy)]
+struct Switch(bool);
 
-// A state of the protect switch.
-fn switch(word: &str) -> Option<bool>
-    ensures { IfSome result (λ on. word.now ≡ (if on then codes "on" else codes "off")) }
-{
-    match word {
-        "on" => Some(true),
-        "off" => Some(false),
-        _ => None,
-    }
-}
+// The error of a word that is no state of a switch.
+#[derive(Clone, Copy)]
+struct NoSwitch;
 
-// The same, if it stands there.
-fn switch_at(words: &[String], place: usize) -> Option<bool>
-    ensures { OnSome result (place < length words.now) }
-{
-    switch(words.get(place)?.as_str())
-}
+impl FromStr for Switch {
+    type Err = NoSwitch;
 
-// A signal, as STEP:LEVEL.
-fn signal(word: &str) -> Option<Signal> {
-    let (step, level) = word.split_once(':')?;
-    let step = step.parse().ok()?;
-    let level = level.parse().ok()?;
-    Some(Signal { step, level })
-}
+    ghost from_str_gives = { λ word r. MatchResult r (λ x. word ≡ (if x.0 then codes "on" else codes "off")) (λ _. (word ≢ codes "on") × (word ≢ codes "off")) };
 
-// What the words ask for, of which the first is the program's name; none where a word fits nothing.
-fn parsed(heap: Global, words: &[String]) -> Result<Option<Arguments>, AllocError> {
-    let mut place = 1;
-    let mut steps = 100;
-    if let Some(number) = steps_at(words, place) {
-        steps = number;
-        place += 1;
-    }
-    let mut protect = true;
-    if let Some(on) = switch_at(words, place) {
-        protect = on;
-        place += 1;
-    }
-    let mut signals = Vec::new(heap);
-    for word in words.iter().skip(place) {
-        match signal(word.as_str()) {
-            Some(signal) => signals.push(signal)?,
-            None => return Ok(None),
+    fn from_str(word: &str) -> Result<Switch, NoSwitch> {
+        match word {
+            "on" => Ok(Switch(true)),
+            "off" => Ok(Switch(false)),
+            _ => Err(NoSwitch),
         }
     }
+}
+
+// The first word as a value, if it is the text of one, and the words that are left.
+fn first_as<T: FromStr>(words: &[String]) -> (Option<T>, &[String])
+where
+    T::Err: Drop,
+    ensures value { IfSome result.0 (λ x. IfSome (slice_get words.now 0) (λ word. T.from_str_gives (string_bytes word) (Ok x))) }
+    ensures left { result.1.now ≡ drop (if is_some result.0 then 1 else 0) words.now }
+{
+    if let Some((first, left)) = words.split_first() {
+        if let Ok(value) = first.as_str().parse() {
+            return (Some(value), left);
+        }
+    }
+    (None, words)
+}
+
+// What the words ask for; none where a word fits nothing.
+fn parsed(heap: Global, words: &[String]) -> Result<Option<Arguments>, AllocError> {
+    let (steps, words) = first_as(words);
+    let (switch, words) = first_as(words);
+    let mut signals = Vec::new(heap);
+    for word in words {
+        match word.as_str().parse() {
+            Ok(signal) => signals.push(signal)?,
+            Err(_) => return Ok(None),
+        }
+    }
+    let Switch(protect) = switch.unwrap_or(Switch(true));
     Ok(Some(Arguments {
-        steps,
+        steps: steps.unwrap_or(100),
         protect,
         signals,
     }))
@@ -83,7 +80,8 @@ fn parsed(heap: Global, words: &[String]) -> Result<Option<Arguments>, AllocErro
 
 fn main(rt: HostRuntime) -> io::Result<()> {
     let heap = rt.alloc();
-    let words: Vec<String> = env::args(&rt)?.collect(heap)?;
+    // The first word is the program's name.
+    let words: Vec<String> = env::args(&rt)?.skip(1).collect(heap)?;
     let Some(arguments) = parsed(heap, words.as_slice())? else {
         return rt.println("usage: s3trace [STEPS] [on|off] [STEP:LEVEL ..]");
     };

@@ -2,7 +2,7 @@
 ghost use Rattle.std.specs.Prelude.{◌≡◌};
 ghost use Rattle.machine.specs.Decode.{decoded, has_address, transferred};
 
-use levels::{LevelControl, Property};
+use levels::{LevelControl, Property, bit_of};
 
 /// The condition of a branch, by its mnemonic.
 #[derive(Clone, Copy)]
@@ -148,11 +148,11 @@ fn transfer_of(join: Join, word: u16) -> Transfer
 {
     Transfer {
         join,
-        carry: word / 512 % 2 == 1,
-        plus_one: word / 256 % 2 == 1,
-        clear: word / 128 % 2 == 1,
+        carry: bit_of(word, 6),
+        plus_one: bit_of(word, 7),
+        clear: bit_of(word, 8),
         destination: (word / 16 % 8) as u8,
-        invert: word / 8 % 2 == 1,
+        invert: bit_of(word, 12),
         source: (word % 8) as u8,
     }
 }

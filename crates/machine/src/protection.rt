@@ -52,7 +52,7 @@ impl Protection {
     pub(crate) fn word(&self, number: u8) -> u16
         ensures { result ≡ protection_word number self.now }
     {
-        self.words().get(number as usize).copied().unwrap_or(0)
+        self.registers.get(number as usize).copied().unwrap_or(0)
     }
 
     /// Whether an address lies in a protected page.

@@ -51,7 +51,16 @@ impl Work {
     pub fn register(&self, number: u8) -> u16
         ensures { result ≡ register number self.now }
     {
-        self.registers().get(number as usize).copied().unwrap_or(0)
+        match number {
+            1 => self.p,
+            2 => self.l,
+            3 => self.t,
+            4 => self.x1,
+            5 => self.x2,
+            6 => self.e,
+            7 => self.a,
+            _ => 0,
+        }
     }
 
     /// Sets O and C by a sum.
@@ -109,16 +118,16 @@ impl Work {
             self.register(transfer.destination)
         };
         let plus_one = transfer.plus_one || transfer.carry && self.c;
-        let joined = match transfer.join {
-            Join::And => old & source,
-            Join::Or => old | source,
-            Join::ExclusiveOr => old ^ source,
+        let result = match transfer.join {
+            Join::And => (old & source).wrapping_add(plus_one as u16),
+            Join::Or => (old | source).wrapping_add(plus_one as u16),
+            Join::ExclusiveOr => (old ^ source).wrapping_add(plus_one as u16),
             Join::Add => {
-                self.flag(add(old, source, plus_one));
-                old.wrapping_add(source)
+                let sum = add(old, source, plus_one);
+                self.flag(sum);
+                sum.word
             }
         };
-        let result = joined.wrapping_add(plus_one as u16);
         let _ = self.put(transfer.destination, result);
     }
 }

@@ -4,6 +4,7 @@ ghost use Rattle.levels.specs.Banks.{records};
 ghost use Rattle.levels.specs.Levels.{Quiet, bits_of, control_each, level_at, lowest as entering, released, told};
 
 use crate::bank::Bank;
+use crate::inhibits::Inhibits;
 use crate::level::{Event, Level, LevelControl, Property};
 
 /// The level records, and whether it is known that none of them waits, so that most steps need not look at them.
@@ -49,15 +50,15 @@ impl Levels {
     }
 
     /// The lowest level that may enter.
-    pub fn lowest(&mut self, ii: bool, ei: bool) -> Option<u8>
-        ensures answer { result ≡ entering 16 0 ii ei (records self.old.bank) }
+    pub fn lowest(&mut self, inhibits: Inhibits) -> Option<u8>
+        ensures answer { result ≡ entering 16 0 inhibits.ii inhibits.ei (records self.old.bank) }
         ensures same { records self.new.bank ≡ records self.old.bank }
     {
         if self.calm {
             return None;
         }
         self.calm = !self.bank.waits();
-        self.bank.lowest(ii, ei)
+        self.bank.lowest(inhibits)
     }
 
     /// Hands the exit event to the lowest active level.

@@ -1,4 +1,6 @@
 //! Sixteen records, of which one is lent at a time.
+#![tactic(auto, unfolding(crate::specs::Banks::records))]
+
 ghost use Rattle.std.specs.Prelude.{◌≡◌, ℕ, ◌<◌, ◌∷◌, replicate, slice_set};
 ghost use Rattle.std.specs.Borrow.{sem, follows_if};
 ghost use Rattle.std.specs.Option.{ghost_name_of as name_of, option_map};

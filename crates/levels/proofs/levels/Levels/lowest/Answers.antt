@@ -1,7 +1,6 @@
-use Rattle.std.proofs.Common.{sym, ap, ◌∙◌}
+use Rattle.std.proofs.Common.{sym, ◌∙◌}
 use Rattle.std.proofs.lemmas.Bool.{not-true}
 use Rattle.levels.specs.Banks.{records}
-use Rattle.levels.specs.Levels.{lowest}
 use Rattle.levels.proofs.Turns.{quiet_from_none, quiet_lowest}
 use Rattle.levels.proofs.levels.Levels.lowest.Goals as goal
 
@@ -11,6 +10,3 @@ returns-then-self-clause-answer c =
 
 pub invariant_of-self : goal.invariant_of-self
 invariant_of-self c = λ e. quiet_from_none (records c.self.inside.bank) (sym c.waits.ensures ∙ not-true c.waits.result e)
-
-pub returns-clause-answer : goal.returns-clause-answer
-returns-clause-answer c = c.lowest.ensures ∙ ap (lowest 16 0 c.args.inhibits.ii c.args.inhibits.ei) c.self.view_is

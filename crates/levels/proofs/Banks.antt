@@ -1,5 +1,5 @@
 -- A bank with one record replaced, as a list.
-use Rattle.std.proofs.Common.{◌≡◌, ℕ, zero, suc, ◌+◌, ◌<◌, cond, eqb, List, [], ◌∷◌, get_or, set, Some, refl, ap, ◌∙◌, arith}
+use Rattle.std.proofs.Common.{◌≡◌, ℕ, zero, suc, ◌+◌, ◌<◌, cond, eqb, List, [], ◌∷◌, get_or, length, set, Some, refl, ap, ◌∙◌, arith}
 use Rattle.std.specs.List.{slice_get}
 use Rattle.std.proofs.lemmas.Bool.{cond-false, cond-true, eq-eqb, ne_eqb}
 use Rattle.levels.specs.declared.bank.Bank.{Bank}
@@ -24,6 +24,7 @@ set_replaced i (suc k) j w (x ∷ xs) e =
     ap (λ y. y ∷ replaced (suc i) j w xs) (cond-false (eqb j i) w x (ne_eqb j i (λ f. omega arith))) ∙ ap (λ l. x ∷ l) (set_replaced (suc i) k j w xs (omega arith))
 
 pub records_with : {T : Type 0} (b : Bank T) (k : ℕ) (w : T) → records (with_record b k w) ≡ set (records b) k w
+unfolding records
 records_with b k w = set_replaced 0 k k w (records b) (omega arith)
 
 -- what stands at a place, read with a default
@@ -35,3 +36,7 @@ get_or_nth (y ∷ xs) (suc k) d x e = get_or_nth xs k d x e
 -- a lent record that a function f has changed
 pub changed : {T : Type 0} (f : T → T) (b : Bank T) (k : ℕ) (d x w : T) → Some x ≡ slice_get (records b) k → w ≡ f x → records (with_record b k w) ≡ set (records b) k (f (get_or (records b) k d))
 changed f b k d x w e g = records_with b k w ∙ ap (set (records b) k) (g ∙ ap f (get_or_nth (records b) k d x e))
+
+pub length_records : {T : Type 0} (b : Bank T) → length (records b) ≡ 16
+unfolding records
+length_records b = refl

@@ -1,60 +1,43 @@
 -- Bits of levels shifted into a word.
-use Rattle.std.proofs.Common.{◌≡◌, ℕ, zero, suc, ◌+◌, ◌-◌, ◌*◌, ◌^◌, ◌<◌, ◌≤◌, Bool, true, false, List, sym, refl, ap, ◌∙◌, mul_assoc, mul_comm, add-mul, mul-le-mul_left, pow-suc, mul-one, arith, pow_pos}
-use mir.Val.{bool_byte}
+use Rattle.std.proofs.Common.{◌≡◌, ℕ, zero, suc, ◌+◌, ◌-◌, ◌*◌, ◌%◌, ◌^◌, ◌<◌, Bool, true, false, List, length, drop, bit_or, refl, ap, ◌∙◌, arith, drop-cons, mod-eq_of_lt, pow-suc}
+use Rattle.std.proofs.Math.Nat.{pow-le-pow_right}
+use Rattle.std.specs.List.{fold}
+use Rattle.std.proofs.lemmas.List.{drop_all}
+use Rattle.std.proofs.lemmas.Nat.{or_shifted}
 use Rattle.levels.specs.declared.level.Level.{Level}
 use Rattle.levels.specs.declared.level.Property.{Property}
 use Rattle.levels.specs.Bits.{one}
-use Rattle.levels.specs.Levels.{bits_of, has, level_at}
+use Rattle.levels.specs.Levels.{bits_of, has, level_at, preset}
 
-pub byte_one : (b : Bool) → bool_byte b ≡ one b
-byte_one true = refl
-byte_one false = refl
+-- a word with one bit more shifted in
+abbrev pub pushed : Property → ℕ → Level → ℕ
+pushed p w l = bit_or (w * 2 % 65536) (one (has p l))
 
 one_below : (b : Bool) → one b < 2
 one_below true = omega arith
 one_below false = omega arith
 
+pushed_sum : (p : Property) (w : ℕ) (l : Level) → w < 32768 → pushed p w l ≡ w * 2 + one (has p l)
+pushed_sum p w l h = ap (λ x. bit_or x (one (has p l))) (mod-eq_of_lt (omega arith)) ∙ or_shifted w 1 (one (has p l)) (one_below (has p l))
+
 bits_suc : (n k : ℕ) (p : Property) (ls : List Level) → bits_of (suc n) k p ls ≡ one (has p (level_at ls k)) * 2 ^ (15 - k) + bits_of n (suc k) p ls
 unfolding bits_of
 bits_suc n k p ls = refl
 
-pub bits_none : (n k : ℕ) (p : Property) (ls : List Level) → n ≡ 0 → bits_of n k p ls ≡ 0
+-- a word shifted, and one bit more
+spread : (w b x y : ℕ) → y ≡ x * 2 → (w * 2 + b) * x ≡ w * y + b * x
+spread w b x y e = grind arith
+
+-- the rest of the levels shifted into a word that has the k before them
+bits_from : (n k w : ℕ) (p : Property) (ls : List Level) → length ls ≡ 16 → n + k ≡ 16 → w < 2 ^ k → fold (pushed p) w (drop k ls) ≡ w * 2 ^ n + bits_of n k p ls
 unfolding bits_of
-bits_none n k p ls e = rw e
-
--- a bit times a number is at most that number
-bit_times : (b : Bool) (x : ℕ) → one b * x ≤ x
-bit_times true x = omega arith
-bit_times false x = omega arith
-
--- n bits are below 2 ^ n
-bits_below : (n k : ℕ) (p : Property) (ls : List Level) → n + k ≡ 16 → bits_of n k p ls < 2 ^ n
-bits_below zero k p ls e = omega (arith, bits_none 0 k p ls refl)
-bits_below (suc n) k p ls e =
+bits_from zero k w p ls e f h = rw (drop_all k ls (omega arith)) (omega arith)
+bits_from (suc n) k w p ls e f h =
+    let b : ℕ = one (has p (level_at ls k)) in
+    let g : pushed p w (level_at ls k) ≡ w * 2 + b = pushed_sum p w (level_at ls k) (omega (arith, pow-le-pow_right {n = 2} (omega arith) {i = k} {j = 15} (omega arith))) in
     let m : 15 - k ≡ n = omega arith in
-    let s : bits_of (suc n) k p ls ≡ one (has p (level_at ls k)) * 2 ^ n + bits_of n (suc k) p ls = bits_suc n k p ls ∙ ap (λ j. one (has p (level_at ls k)) * 2 ^ j + bits_of n (suc k) p ls) m in
-    omega (arith, s, bit_times (has p (level_at ls k)) (2 ^ n), bits_below n (suc k) p ls (omega arith), pow-suc 2 n)
+    let more : fold (pushed p) (w * 2 + b) (drop (suc k) ls) ≡ (w * 2 + b) * 2 ^ n + bits_of n (suc k) p ls = bits_from n (suc k) (w * 2 + b) p ls e (omega arith) (omega (arith, pow-suc 2 k, one_below (has p (level_at ls k)))) in
+    rw (drop-cons ls k (preset 0) (omega arith), m) (ap (λ x. fold (pushed p) x (drop (suc k) ls)) g ∙ more ∙ omega (arith, spread w b (2 ^ n) (2 ^ suc n) (pow-suc 2 n)))
 
--- one bit more shifted into w
-module _ (k w : ℕ) (p : Property) (ls : List Level) (b : Bool) (h : k < 16) (e : b ≡ has p (level_at ls k))
-    (inv : bits_of 16 0 p ls ≡ w * 2 ^ (16 - k) + bits_of (16 - k) k p ls) where
-  pub shifted : bits_of 16 0 p ls ≡ (w * 2 + one b) * 2 ^ (16 - (k + 1)) + bits_of (16 - (k + 1)) (k + 1) p ls
-  shifted =
-      let n = 16 - (k + 1) in
-      let x : ℕ = 2 ^ n in
-      let u : 16 - k ≡ suc n = omega arith in
-      let m : 15 - k ≡ n = omega arith in
-      let f : k + 1 ≡ suc k = omega arith in
-      let s : bits_of (16 - k) k p ls ≡ one b * x + bits_of n (k + 1) p ls =
-      ap (λ j. bits_of j k p ls) u ∙ bits_suc n k p ls ∙ ap (λ j. one (has p (level_at ls k)) * 2 ^ j + bits_of n (suc k) p ls) m
-      ∙ ap (λ c. one c * x + bits_of n (suc k) p ls) (sym e) ∙ ap (λ j. one b * x + bits_of n j p ls) (sym f) in
-      let t : w * 2 ^ (16 - k) ≡ w * x * 2 = ap (λ j. w * 2 ^ j) u ∙ ap (λ y. w * y) (pow-suc 2 n) ∙ sym (mul_assoc w x 2) in
-      let v : w * 2 * x ≡ w * x * 2 = mul_assoc w 2 x ∙ ap (λ y. w * y) (mul_comm 2 x) ∙ sym (mul_assoc w x 2) in
-      omega (arith, add-mul (w * 2) (one b) x)
-
-  pub fits : w * 2 + one b < 65536
-  fits =
-      let y : ℕ = w * 2 + one b in
-      let x : ℕ = 2 ^ (16 - (k + 1)) in
-      let q : y * 1 ≤ y * x = mul-le-mul_left y (pow_pos (16 - (k + 1))) in
-      omega (arith, shifted, bits_below 16 0 p ls (omega arith), mul-one y)
+pub bits_all : (p : Property) (ls : List Level) → length ls ≡ 16 → fold (pushed p) 0 ls ≡ bits_of 16 0 p ls
+bits_all p ls e = bits_from 16 0 0 p ls e refl (omega arith) ∙ omega arith

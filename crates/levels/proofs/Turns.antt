@@ -1,14 +1,16 @@
 -- Going through the levels one by one.
-use Rattle.std.proofs.Common.{◌≡◌, ℕ, zero, suc, ◌+◌, ◌-◌, ◌<◌, Bool, true, false, cond, List, length, set, None, Option, sym, refl, ap, ◌∙◌, inl, inr, arith}
-use Rattle.std.proofs.lemmas.List.{get_or_past}
-use Rattle.std.proofs.lemmas.Bool.{cases_lt}
+use Rattle.std.proofs.Common.{◌≡◌, ℕ, zero, suc, ◌+◌, ◌-◌, ◌<◌, Bool, true, false, cond, List, [], ◌∷◌, length, drop, set, None, Some, Option, sym, refl, ap, ◌∙◌, arith, drop-cons}
+use Rattle.std.specs.List.{list_any, position, position_from}
+use Rattle.std.proofs.lemmas.Bool.{or_parts}
+use Rattle.std.proofs.lemmas.List.{drop_all}
+use Rattle.std.proofs.lemmas.Iterator.Adapters.{position_from-zero}
 use Rattle.levels.specs.declared.level.LevelControl.{LevelControl}
 use Rattle.levels.specs.declared.level.Event.TheVariants.{Exit}
 use Rattle.levels.specs.declared.level.Level.{Level}
 use Rattle.levels.specs.declared.level.LevelState.{LevelState}
 use Rattle.levels.specs.declared.level.LevelState.TheVariants.{Disarmed, Armed, Waiting, Active}
-use Rattle.levels.specs.declared.level.Sight.{Sight}
-use Rattle.levels.specs.Levels.{Quiet, choose, control_each, controlled, inhibited, is_active, is_waiting, level_at, lowest, preset, released, sighted, sighted_by, told}
+use Rattle.levels.specs.declared.level.Property.TheVariants.{Active as ActiveProperty, Waiting as WaitingProperty}
+use Rattle.levels.specs.Levels.{Quiet, choose, control_each, controlled, has, inhibited, is_active, is_waiting, level_at, lowest, preset, released, sighted, sighted_by, told}
 use Rattle.levels.specs.Bits.{bit}
 
 -- what a scan over the n levels from k on comes to, one level further
@@ -28,12 +30,11 @@ unfolding lowest
 lowest_none n k ii ei ls e = rw e
 
 -- what a turn of the search sees
-pub sees : (k : ℕ) (ii ei : Bool) (ls : List Level) (l : Level) (b : Bool) (x : Sight) → k < 16 → lowest 16 0 ii ei ls ≡ lowest (16 - k) k ii ei ls
-    → l ≡ level_at ls k → b ≡ inhibited ii ei k → x ≡ sighted b l → lowest 16 0 ii ei ls ≡ choose x k (lowest (16 - (k + 1)) (k + 1) ii ei ls)
-sees k ii ei ls l b x h inv el eb ex =
-    let more : lowest (16 - k) k ii ei ls ≡ choose (sighted (inhibited ii ei k) (level_at ls k)) k (lowest (16 - (k + 1)) (k + 1) ii ei ls) =
-    rw (less k h, next k h) (lowest_suc (16 - suc k) k ii ei ls) in
-    rw (ex, eb, el) (inv ∙ more)
+pub sees : (k : ℕ) (ii ei : Bool) (ls : List Level) → k < 16
+    → lowest (16 - k) k ii ei ls ≡ choose (sighted (inhibited ii ei k) (level_at ls k)) k (lowest (16 - (k + 1)) (k + 1) ii ei ls)
+sees k ii ei ls h = rw (less k h, next k h) (lowest_suc (16 - suc k) k ii ei ls)
+
+pub ruleset searching = (sees, lowest_none)
 
 -- where none waits, none enters
 passes : (b : Bool) (s : LevelState) (e : Bool) (k : ℕ) (rest : Option ℕ) → is_waiting s ≡ false → rest ≡ None → choose (sighted_by b s e) k rest ≡ None
@@ -48,20 +49,30 @@ unfolding lowest
 quiet_lowest zero k ii ei ls q = refl
 quiet_lowest (suc n) k ii ei ls q = passes (inhibited ii ei k) (level_at ls k).state (level_at ls k).enabled k (lowest n (suc k) ii ei ls) (q k) (quiet_lowest n (suc k) ii ei ls q)
 
-released_suc : (n k : ℕ) (ls : List Level) → released (suc n) k ls ≡ cond (is_active (level_at ls k).state) (told k Exit ls) (released n (suc k) ls)
-unfolding released
-released_suc n k ls = refl
+-- where none is found waiting, none waits
+pub quiet_from_none : (ls : List Level) → list_any (has WaitingProperty) ls ≡ false → Quiet ls
+quiet_from_none [] e k = refl
+quiet_from_none (l ∷ ls) e zero = (or_parts (has WaitingProperty l) (list_any (has WaitingProperty) ls) e).0
+quiet_from_none (l ∷ ls) e (suc k) = quiet_from_none ls (or_parts (has WaitingProperty l) (list_any (has WaitingProperty) ls) e).1 k
 
-pub released_none : (n k : ℕ) (ls : List Level) → n ≡ 0 → released n k ls ≡ ls
-unfolding released
-released_none n k ls e = rw e
+-- the records after the level that was found, if any, has taken the exit event
+abbrev given : List Level → Option ℕ → List Level
+given ls None = ls
+given ls (Some k) = told k Exit ls
 
-pub lets_go : (k : ℕ) (ls start : List Level) (l : Level) (b : Bool) → k < 16 → ls ≡ start → released 16 0 ls ≡ released (16 - k) k ls
-    → l ≡ level_at ls k → b ≡ is_active l.state → released 16 0 start ≡ cond b (told k Exit ls) (released (16 - (k + 1)) (k + 1) ls)
-lets_go k ls start l b h e inv el eb =
-    let more : released (16 - k) k ls ≡ cond (is_active (level_at ls k).state) (told k Exit ls) (released (16 - (k + 1)) (k + 1) ls) =
-    rw (less k h, next k h) (released_suc (16 - suc k) k ls) in
-    rw (eb, el) (ap (released 16 0) (sym e) ∙ inv ∙ more)
+given_cond : (ls : List Level) (b : Bool) (k : ℕ) (r : Option ℕ) (rest : List Level) → rest ≡ given ls r → cond b (told k Exit ls) rest ≡ given ls (cond b (Some k) r)
+given_cond ls true k r rest e = refl
+given_cond ls false k r rest e = e
+
+released_from : (n k : ℕ) (ls : List Level) → length ls ≡ n + k → released n k ls ≡ given ls (position_from (has ActiveProperty) k (drop k ls))
+unfolding released
+released_from zero k ls e = rw (drop_all k ls (omega arith)) refl
+released_from (suc n) k ls e =
+    let z : k + 1 ≡ suc k = omega arith in
+    rw (drop-cons ls k (preset 0) (omega arith), z) (given_cond ls (is_active (level_at ls k).state) k _ _ (released_from n (suc k) ls (omega arith)))
+
+pub released_found : (ls : List Level) (r : Option ℕ) → length ls ≡ 16 → r ≡ position (has ActiveProperty) ls → given ls r ≡ released 16 0 ls
+released_found ls r e p = sym (released_from 16 0 ls e ∙ ap (given ls) (sym (p ∙ position_from-zero (has ActiveProperty) ls)))
 
 control_suc : (n k : ℕ) (c : LevelControl) (a : ℕ) (ls : List Level)
     → control_each (suc n) k c a ls ≡ control_each n (suc k) c a (cond (bit a k) (set ls k (controlled c (level_at ls k))) ls)
@@ -74,16 +85,8 @@ pub controls : (k : ℕ) (c : LevelControl) (a : ℕ) (ls new total : List Level
 controls k c a ls new total b h inv e f =
     let more : control_each (16 - k) k c a ls ≡ control_each (16 - (k + 1)) (k + 1) c a (cond (bit a k) (set ls k (controlled c (level_at ls k))) ls) =
     rw (less k h, next k h) (control_suc (16 - suc k) k c a ls) in
-    inv ∙ more ∙ ap (control_each (16 - (k + 1)) (k + 1) c a) (ap (λ t. cond t (set ls k (controlled c (level_at ls k))) ls) e ∙ sym f)
+    rw (f, ← e) (inv ∙ more)
 
 pub controls_none : (n k : ℕ) (c : LevelControl) (a : ℕ) (ls : List Level) → n ≡ 0 → control_each n k c a ls ≡ ls
 unfolding control_each
 controls_none n k c a ls e = rw e
-
--- past the sixteen records none waits
-pub quiet_all : (ls : List Level) → length ls ≡ 16 → ((j : ℕ) → j < 16 → is_waiting (level_at ls j).state ≡ false) → Quiet ls
-quiet_all ls e h j =
-    elim (cases_lt j 16) [
-      | inl l ↦ h j l
-      | inr g ↦ ap (λ (l : Level). is_waiting l.state) (get_or_past ls j (preset 0) (omega arith))
-    ]

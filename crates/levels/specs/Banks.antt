@@ -3,7 +3,7 @@ use Rattle.std.specs.Prelude.{ℕ, cond, List, [], ◌∷◌, ◌==◌}
 use Rattle.levels.specs.declared.bank.Bank.{Bank}
 
 -- the records in the order of their levels
-abbrev pub records : {T : Type 0} → Bank T → List T
+unfoldable pub records : {T : Type 0} → Bank T → List T
 records b = b.l0 ∷ b.l1 ∷ b.l2 ∷ b.l3 ∷ b.l4 ∷ b.l5 ∷ b.l6 ∷ b.l7 ∷ b.l8 ∷ b.l9 ∷ b.l10 ∷ b.l11 ∷ b.l12 ∷ b.l13 ∷ b.l14 ∷ b.l15 ∷ []
 
 -- the records with that of level k replaced

@@ -1,4 +1,3 @@
 pub mod Bits
 pub mod Levels
 pub mod Banks
-pub mod View

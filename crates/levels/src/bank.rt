@@ -1,4 +1,6 @@
 //! Sixteen records, of which one is lent at a time.
+#![tactic(auto, unfolding(crate::specs::Banks::records))]
+
 ghost use Rattle.std.specs.Prelude.{◌≡◌, ℕ, ◌<◌, ◌∷◌, replicate, slice_set};
 ghost use Rattle.std.specs.Borrow.{sem, follows_if};
 ghost use Rattle.std.specs.Option.{ghost_name_of as name_of, option_map};
@@ -54,31 +56,6 @@ impl<T: Copy> Bank<T> {
             l15: other,
         }
     }
-
-    /// The record of a level, or `None` above level 15.
-    pub(crate) fn at(&self, number: u8) -> Option<T>
-        ensures { result ≡ slice_get (records self.now) number }
-    {
-        match number {
-            0 => Some(self.l0),
-            1 => Some(self.l1),
-            2 => Some(self.l2),
-            3 => Some(self.l3),
-            4 => Some(self.l4),
-            5 => Some(self.l5),
-            6 => Some(self.l6),
-            7 => Some(self.l7),
-            8 => Some(self.l8),
-            9 => Some(self.l9),
-            10 => Some(self.l10),
-            11 => Some(self.l11),
-            12 => Some(self.l12),
-            13 => Some(self.l13),
-            14 => Some(self.l14),
-            15 => Some(self.l15),
-            _ => None,
-        }
-    }
 }
 
 impl<T> Bank<T> {
@@ -110,6 +87,23 @@ impl<T> Bank<T> {
 }
 
 impl Bank<Level> {
+    /// The sixteen records in the order of their levels.
+    pub(crate) fn all(&self) -> [Level; 16]
+        ensures { result ≡ records self.now }
+    {
+        [
+            self.l0, self.l1, self.l2, self.l3, self.l4, self.l5, self.l6, self.l7, self.l8,
+            self.l9, self.l10, self.l11, self.l12, self.l13, self.l14, self.l15,
+        ]
+    }
+
+    /// The record of a level; above level 15 it is disarmed and disabled.
+    pub(crate) fn level(&self, number: u8) -> Level
+        ensures { result ≡ level_at (records self.now) number }
+    {
+        self.all().get(number as usize).copied().unwrap_or_default()
+    }
+
     /// Sets the record of a level, or does nothing above level 15; the other fifteen stay.
     pub(crate) fn put(&mut self, number: u8, level: Level)
         ensures { records self.new ≡ slice_set (records self.old) number level }

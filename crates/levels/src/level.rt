@@ -3,8 +3,9 @@ ghost use Rattle.std.specs.Prelude.{◌≡◌};
 ghost use Rattle.levels.specs.Levels.{controlled, has, preset as numbered, sighted, taken};
 
 /// What a level is doing.
-#[derive(Clone, Copy)]
+#[derive(Clone, Copy, PartialEq, Eq, Debug, Default)]
 pub enum LevelState {
+    #[default]
     Disarmed,
     Armed,
     Waiting,
@@ -12,7 +13,7 @@ pub enum LevelState {
 }
 
 /// What may happen to a level.
-#[derive(Clone, Copy)]
+#[derive(Clone, Copy, PartialEq, Eq, Debug)]
 pub enum Event {
     Disarm,
     Arm,
@@ -23,7 +24,7 @@ pub enum Event {
 }
 
 /// What RD shows of a level.
-#[derive(Clone, Copy)]
+#[derive(Clone, Copy, PartialEq, Eq, Debug)]
 pub enum Property {
     Enabled,
     Waiting,
@@ -31,7 +32,7 @@ pub enum Property {
 }
 
 /// What WD does to the levels whose bits are 1.
-#[derive(Clone, Copy)]
+#[derive(Clone, Copy, PartialEq, Eq, Debug)]
 pub enum LevelControl {
     Disarm,
     Arm,
@@ -41,7 +42,7 @@ pub enum LevelControl {
 }
 
 /// What a level means for those of a higher number: it enters, it blocks them, or they are looked at next.
-#[derive(Clone, Copy)]
+#[derive(Clone, Copy, PartialEq, Eq, Debug)]
 pub enum Sight {
     Enters,
     Blocks,
@@ -49,7 +50,7 @@ pub enum Sight {
 }
 
 /// The record of a level: its state, and whether it is enabled.
-#[derive(Clone, Copy)]
+#[derive(Clone, Copy, PartialEq, Eq, Debug, Default)]
 pub struct Level {
     pub state: LevelState,
     pub enabled: bool,
@@ -60,14 +61,16 @@ impl Level {
     pub fn preset(number: u8) -> Level
         ensures { result ≡ numbered number }
     {
-        let state = if number == 0 {
-            LevelState::Disarmed
-        } else {
-            LevelState::Armed
-        };
-        Level {
-            state,
-            enabled: number == 2,
+        match number {
+            0 => Level::default(),
+            2 => Level {
+                state: LevelState::Armed,
+                enabled: true,
+            },
+            _ => Level {
+                state: LevelState::Armed,
+                enabled: false,
+            },
         }
     }
 
@@ -116,8 +119,8 @@ impl Level {
     {
         match property {
             Property::Enabled => self.enabled,
-            Property::Waiting => matches!(self.state, LevelState::Waiting),
-            Property::Active => matches!(self.state, LevelState::Active),
+            Property::Waiting => self.state == LevelState::Waiting,
+            Property::Active => self.state == LevelState::Active,
         }
     }
 }

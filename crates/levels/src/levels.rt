@@ -1,23 +1,37 @@
 //! The sixteen levels.
-ghost use Rattle.std.specs.Prelude.{◌≡◌, true, ◌∷◌, set, replicate, slice_set};
-ghost use Rattle.levels.specs.Banks.{records};
-ghost use Rattle.levels.specs.Levels.{Quiet, bits_of, control_each, level_at, lowest as entering, released, told};
+ghost use Rattle.std.specs.Prelude.{◌≡◌, ◌∷◌, replicate, slice_set};
+ghost use Rattle.levels.specs.Levels.{bits_of, control_each, level_at, lowest as entering, released, told};
 
 use crate::bank::Bank;
+use crate::inhibits::Inhibits;
 use crate::level::{Event, Level, LevelControl, Property};
+use std::marker::Model;
 
 /// The level records, and whether it is known that none of them waits, so that most steps need not look at them.
 #[derive(Drop)]
 pub struct Levels {
     bank: Bank<Level>,
     calm: bool,
-    ghost quiet: { calm ≡ true → Quiet (records bank) },
+}
+
+impl Model for Levels {
+    ghost use Rattle.std.specs.Prelude.{◌≡◌, true, List};
+    ghost use Rattle.levels.specs.declared.level.Level.{Level};
+
+    ghost Value = { List Level };
+
+    ghost use Rattle.levels.specs.Banks.{records};
+    ghost use Rattle.levels.specs.Levels.{Quiet};
+
+    ghost view = { λ x. records x.bank };
+
+    ghost invariant = { λ x. x.calm ≡ true → Quiet (records x.bank) };
 }
 
 impl Levels {
     /// One record for level 0, another for each of the others.
     pub fn new(first: Level, other: Level) -> Levels
-        ensures { records result.bank ≡ first ∷ replicate 15 other }
+        ensures { result ≡ first ∷ replicate 15 other }
     {
         Levels {
             bank: Bank::new(first, other),
@@ -27,14 +41,14 @@ impl Levels {
 
     /// The record of a level; above level 15 it is disarmed and disabled.
     pub fn at(&self, number: u8) -> Level
-        ensures { result ≡ level_at (records self.now.bank) number }
+        ensures { result ≡ level_at self.now number }
     {
         self.bank.level(number)
     }
 
     /// Sets the record of a level, or does nothing above level 15.
     pub fn put(&mut self, number: u8, level: Level)
-        ensures { records self.new.bank ≡ slice_set (records self.old.bank) number level }
+        ensures { self.new ≡ slice_set self.old number level }
     {
         self.calm = false;
         self.bank.put(number, level);
@@ -42,27 +56,27 @@ impl Levels {
 
     /// Hands an event to a level, or does nothing above level 15.
     pub fn tell(&mut self, number: u8, event: Event)
-        ensures { records self.new.bank ≡ told number event (records self.old.bank) }
+        ensures { self.new ≡ told number event self.old }
     {
         self.calm = false;
         self.bank.tell(number, event);
     }
 
     /// The lowest level that may enter.
-    pub fn lowest(&mut self, ii: bool, ei: bool) -> Option<u8>
-        ensures answer { result ≡ entering 16 0 ii ei (records self.old.bank) }
-        ensures same { records self.new.bank ≡ records self.old.bank }
+    pub fn lowest(&mut self, inhibits: Inhibits) -> Option<u8>
+        ensures answer { result ≡ entering 16 0 inhibits.ii inhibits.ei self.old }
+        ensures same { self.new ≡ self.old }
     {
         if self.calm {
             return None;
         }
         self.calm = !self.bank.waits();
-        self.bank.lowest(ii, ei)
+        self.bank.lowest(inhibits)
     }
 
     /// Hands the exit event to the lowest active level.
     pub fn release(&mut self)
-        ensures { records self.new.bank ≡ released 16 0 (records self.old.bank) }
+        ensures { self.new ≡ released 16 0 self.old }
     {
         self.calm = false;
         self.bank.release();
@@ -70,7 +84,7 @@ impl Levels {
 
     /// Hands a control of WD to each of levels 1 to 15 whose bit is 1.
     pub fn control_each(&mut self, control: LevelControl, bits: u16)
-        ensures { records self.new.bank ≡ control_each 15 1 control bits (records self.old.bank) }
+        ensures { self.new ≡ control_each 15 1 control bits self.old }
     {
         self.calm = false;
         self.bank.control_each(control, bits);
@@ -78,7 +92,7 @@ impl Levels {
 
     /// A word with bit k set for each level k that has a property.
     pub fn bits(&self, property: Property) -> u16
-        ensures { result ≡ bits_of 16 0 property (records self.now.bank) }
+        ensures { result ≡ bits_of 16 0 property self.now }
     {
         self.bank.bits(property)
     }

@@ -2,11 +2,13 @@
 #![tactic(auto)]
 
 mod bank;
+mod inhibits;
 mod level;
 mod levels;
 mod scans;
 mod words;
 
+pub use inhibits::Inhibits;
 pub use level::{Event, Level, LevelControl, LevelState, Property, Sight};
 pub use levels::Levels;
 pub use words::bit_of;

@@ -6,6 +6,5 @@ ghost use Rattle.levels.specs.Bits.{bit};
 pub fn bit_of(word: u16, number: u8) -> bool
     ensures { result ≡ bit word number }
 {
-    let places = if number > 15 { 0 } else { 15 - number };
-    (word >> places) % 2 == 1
+    (word >> 15u8.saturating_sub(number)) % 2 == 1
 }

@@ -1,14 +1,13 @@
 -- The state as the code holds it, seen as a cpu.
 use Rattle.std.specs.Prelude.{ℕ, List}
 use Rattle.machine.specs.declared.state.State.{State}
-use Rattle.levels.specs.View.{held}
 use Rattle.machine.specs.State.{Cpu, Machine}
 
 -- the cpu of a state
 abbrev pub cpu_of : State → Cpu
 cpu_of s = record {
   work = s.work;
-  guard = record { protection = s.protection; ii = s.ii; ei = s.ei; levels = held s.levels };
+  guard = record { protection = s.protection; ii = s.inhibits.ii; ei = s.inhibits.ei; levels = s.levels };
   pp = s.pp;
   mark = s.mark;
   last = s.last;

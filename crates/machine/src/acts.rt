@@ -1,14 +1,27 @@
 //! What steps make of the state of a processor.
-ghost use Rattle.std.specs.Prelude.{◌≡◌, not, ◌&&◌};
+ghost use Rattle.std.specs.Prelude.{◌≡◌, true, not, ◌&&◌};
+ghost use Rattle.levels.specs.Bits.{bit};
 ghost use Rattle.machine.specs.State.{set_work};
 ghost use Rattle.machine.specs.Step.{class, due, enter_cpu, exits, fetch_cpu, fetch_pp, judge, leave_cpu, read_function, stalls, status, violate_cpu, violation, write_function};
 ghost use Rattle.machine.specs.View.{cpu_of};
 ghost use Rattle.machine.specs.Words.{protects};
+ghost use Rattle.machine.specs.Work.{set_oc};
 
 use crate::call::Outcome;
 use crate::instruction::{Instruction, ReadFunction, WriteFunction};
 use crate::state::{Mark, State, Violation, ViolationKind};
-use levels::{Event, Property, bit_of};
+use levels::{Event, Inhibits, Property, bit_of};
+
+// II and EI as a word gives them.
+fn inhibits_of(word: u16) -> Inhibits
+    ensures ii { result.ii ≡ bit word 12 }
+    ensures ei { result.ei ≡ bit word 13 }
+{
+    Inhibits {
+        ii: bit_of(word, 12),
+        ei: bit_of(word, 13),
+    }
+}
 
 impl State {
     /// The level that enters now, if any.
@@ -16,10 +29,10 @@ impl State {
         ensures answer { result ≡ due (cpu_of self.old).mark (cpu_of self.old).guard }
         ensures same { cpu_of self.new ≡ cpu_of self.old }
     {
-        match self.mark {
-            Mark::Exit => None,
-            Mark::Unset | Mark::Wait => self.levels.lowest(self.ii, self.ei),
+        if self.mark == Mark::Exit {
+            return None;
         }
+        self.levels.lowest(self.inhibits)
     }
 
     /// The first status word.
@@ -27,8 +40,8 @@ impl State {
         ensures { result ≡ status (cpu_of self.now) }
     {
         self.pp as u16 * 16
-            + self.ii as u16 * 8
-            + self.ei as u16 * 4
+            + self.inhibits.ii as u16 * 8
+            + self.inhibits.ei as u16 * 4
             + self.work.o as u16 * 2
             + self.work.c as u16
     }
@@ -51,8 +64,7 @@ impl State {
         self.work.p = second;
         self.work.o = bit_of(first, 14);
         self.work.c = bit_of(first, 15);
-        self.ii = bit_of(first, 12);
-        self.ei = bit_of(first, 13);
+        self.inhibits = inhibits_of(first);
         self.pp = !self.switch || bit_of(first, 11);
     }
 
@@ -64,13 +76,7 @@ impl State {
             return Some(self.pp);
         }
         let page = self.protection.protects(self.work.p);
-        if self.pp {
-            Some(page)
-        } else if page {
-            None
-        } else {
-            Some(false)
-        }
+        (self.pp || !page).then_some(page)
     }
 
     /// The violation of an instruction at P, at the PP that its fetch left.
@@ -80,36 +86,27 @@ impl State {
         if !self.switch || pp {
             return None;
         }
-        let place = self.work.p;
-        match instruction {
-            Instruction::Sta(aim) | Instruction::Im(aim) => {
-                if self.protection.protects(aim) {
-                    Some(Violation {
-                        kind: ViolationKind::Store,
-                        place,
-                        aim,
-                    })
-                } else {
-                    None
-                }
+        let (kind, aim) = match instruction {
+            Instruction::Sta(aim) | Instruction::Im(aim) if self.protection.protects(aim) => {
+                (ViolationKind::Store, aim)
             }
-            Instruction::Read(_, aim) | Instruction::Write(_, aim) => Some(Violation {
-                kind: ViolationKind::Operation,
-                place,
-                aim,
-            }),
-            _ => None,
-        }
+            Instruction::Read(_, aim) | Instruction::Write(_, aim) => {
+                (ViolationKind::Operation, aim)
+            }
+            _ => return None,
+        };
+        Some(Violation {
+            kind,
+            place: self.work.p,
+            aim,
+        })
     }
 
     /// Whether an LDX exits, at the PP that its fetch leaves.
     pub fn exits(&self, pp: bool) -> bool
         ensures { result ≡ exits (cpu_of self.now).mark pp }
     {
-        match self.mark {
-            Mark::Exit => pp,
-            Mark::Unset | Mark::Wait => false,
-        }
+        pp && self.mark == Mark::Exit
     }
 
     /// A fetch that leaves this PP.
@@ -139,6 +136,14 @@ impl State {
         }
     }
 
+    // A function of RD or WD that is not listed.
+    fn unlisted(&mut self)
+        ensures { cpu_of self.new ≡ set_work (set_oc true true (cpu_of self.old).work) (cpu_of self.old) }
+    {
+        self.work.o = true;
+        self.work.c = true;
+    }
+
     /// A privileged function of RD.
     pub fn read(&mut self, function: ReadFunction)
         ensures { cpu_of self.new ≡ set_work (read_function function (cpu_of self.old) (cpu_of self.old).work) (cpu_of self.old) }
@@ -147,10 +152,7 @@ impl State {
             ReadFunction::Protection(number) => self.work.a = self.protection.word(number),
             ReadFunction::Status => self.work.a = self.status(),
             ReadFunction::Levels(property) => self.work.a = self.levels.bits(property),
-            ReadFunction::Unlisted => {
-                self.work.o = true;
-                self.work.c = true;
-            }
+            ReadFunction::Unlisted => self.unlisted(),
         }
     }
 
@@ -163,17 +165,11 @@ impl State {
             WriteFunction::Protection(number) => {
                 let _ = self.protection.set(number, a);
             }
-            WriteFunction::Inhibits => {
-                self.ii = bit_of(a, 12);
-                self.ei = bit_of(a, 13);
-            }
+            WriteFunction::Inhibits => self.inhibits = inhibits_of(a),
             WriteFunction::Wait => self.mark = Mark::Wait,
             WriteFunction::Exit => self.mark = Mark::Exit,
             WriteFunction::Levels(control) => self.levels.control_each(control, a),
-            WriteFunction::Unlisted => {
-                self.work.o = true;
-                self.work.c = true;
-            }
+            WriteFunction::Unlisted => self.unlisted(),
         }
     }
 }

@@ -5,11 +5,12 @@ ghost use Rattle.machine.specs.State.{initial};
 
 use crate::protection::Protection;
 use crate::work::Work;
-use levels::{Level, Levels};
+use levels::{Inhibits, Level, LevelState, Levels};
 
 /// What stands between an instruction and the next fetch.
-#[derive(Clone, Copy)]
+#[derive(Clone, Copy, PartialEq, Eq, Debug, Default)]
 pub enum Mark {
+    #[default]
     Unset,
     Wait,
     Exit,
@@ -31,13 +32,12 @@ pub struct Violation {
     pub aim: u16,
 }
 
-/// The registers, indicators, protection registers, levels, mark, last address, latest violation and protect switch.
+/// The registers, indicators, protection registers, inhibits, levels, mark, last address, latest violation and protect switch.
 #[derive(Drop)]
 pub struct State {
     pub work: Work,
     pub protection: Protection,
-    pub ii: bool,
-    pub ei: bool,
+    pub inhibits: Inhibits,
     pub levels: Levels,
     pub pp: bool,
     pub mark: Mark,
@@ -51,24 +51,17 @@ impl State {
     pub fn new() -> State
         ensures { cpu_of result ≡ initial }
     {
+        let first = Level {
+            state: LevelState::Armed,
+            enabled: true,
+        };
         State {
-            work: Work {
-                p: 0,
-                l: 0,
-                t: 0,
-                x1: 0,
-                x2: 0,
-                e: 0,
-                a: 0,
-                o: false,
-                c: false,
-            },
+            work: Work::default(),
             protection: Protection::new(),
-            ii: false,
-            ei: false,
-            levels: Levels::new(Level::preset(2), Level::preset(0)),
+            inhibits: Inhibits::default(),
+            levels: Levels::new(first, Level::default()),
             pp: false,
-            mark: Mark::Unset,
+            mark: Mark::default(),
             last: 0,
             violation: None,
             switch: false,

@@ -8,7 +8,7 @@ use crate::refusal::Refusal;
 use crate::sum::{Sum, add};
 
 /// The registers but Z, which reads as 0 and keeps nothing, and the indicators O and C.
-#[derive(Clone, Copy)]
+#[derive(Clone, Copy, Default)]
 pub struct Work {
     pub p: u16,
     pub l: u16,

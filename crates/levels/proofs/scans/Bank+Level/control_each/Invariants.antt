@@ -3,5 +3,5 @@ use Rattle.levels.specs.Levels.{control_each}
 use Rattle.levels.specs.Banks.{records}
 use Rattle.levels.proofs.scans.Bank+Level.control_each.Given as goal
 
-abbrev pub invariant-loop-k : goal.invariant-loop-k
-invariant-loop-k l = control_each 15 1 l.control l.bits (records l.initial.self) ≡ control_each (16 - l.k) l.k l.control l.bits (records l.self)
+abbrev pub invariant-loop-number : goal.invariant-loop-number
+invariant-loop-number l = control_each 15 1 l.control l.bits (records l.initial.self) ≡ control_each (16 - l.number) l.number l.control l.bits (records l.self)

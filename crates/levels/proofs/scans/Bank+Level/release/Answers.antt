@@ -1,23 +1,21 @@
-use Rattle.std.proofs.Common.{◌≡◌, ◌-◌, sym, refl, ap, ◌∙◌, arith}
+use Rattle.std.proofs.Common.{Some, None, rules, tests, sym, ◌∙◌}
+use Rattle.std.proofs.lemmas.Iterator.{YieldsList-from_slice}
+use Rattle.std.proofs.lemmas.Iterator.Search.{position_from_yields_List}
 use Rattle.levels.specs.Banks.{records}
-use Rattle.levels.specs.Levels.{released}
-use Rattle.levels.proofs.Turns.{lets_go, released_none}
+use Rattle.levels.specs.declared.level.Property.TheVariants.{Active}
+use Rattle.levels.specs.Levels.{has}
+use Rattle.levels.proofs.Banks.{length_records}
+use Rattle.levels.proofs.Turns.{released_found}
 use Rattle.levels.proofs.scans.Bank+Level.release.Goals as goal
 
-pub returns-then-has : goal.returns-then-has
-returns-then-has c =
-    c.tell.ensures
-    ∙ sym (lets_go c.loop-k.k (records c.loop-k.self) (records c.args.self.now) _ _ c.loop-k-test.true c.loop-k.invariant.0 c.loop-k.invariant.1
-    c.level.ensures c.if-has.ensures)
+pub returns-in-Some : goal.returns-in-Some
+returns-in-Some c =
+    let ls = records c.args.self.now in
+    c.tell.ensures ∙ released_found ls (Some c.in-Some.number) (length_records c.args.self.now)
+    (sym c.in-Some.is ∙ position_from_yields_List (has Active) _ _ _ c.position-active.ensures.ran (YieldsList-from_slice ls cc) (λ x b q k. search (rules, tests)))
 
-pub loop-k-preserved : goal.loop-k-preserved
-loop-k-preserved c = (
-  c.loop-k.invariant.0,
-  lets_go c.loop-k.k (records c.loop-k.self) (records c.loop-k.self) _ _ c.loop-k-test.true refl c.loop-k.invariant.1 c.level.ensures c.if-has.ensures,
-)
-
-pub returns : goal.returns
-returns c =
-    let ls = records c.loop-k.self in
-    let e : 16 - c.loop-k.k ≡ 0 = omega arith in
-    sym (ap (released 16 0) (sym c.loop-k.invariant.0) ∙ c.loop-k.invariant.1 ∙ released_none (16 - c.loop-k.k) c.loop-k.k ls e)
+pub returns-in_default : goal.returns-in_default
+returns-in_default c =
+    let ls = records c.args.self.now in
+    released_found ls None (length_records c.args.self.now)
+    (sym c.in_default.is ∙ position_from_yields_List (has Active) _ _ _ c.position-active.ensures.ran (YieldsList-from_slice ls cc) (λ x b q k. search (rules, tests)))

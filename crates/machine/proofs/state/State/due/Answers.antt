@@ -1,15 +1,19 @@
-use Rattle.std.proofs.Common.{sym, ap, ◌∙◌, inl, inr}
-use Rattle.machine.specs.State.{set_guard, set_levels}
+use Rattle.std.proofs.Common.{◌≡◌, false, refl, ◌∙◌}
+use Rattle.std.proofs.lemmas.Bool.{false≢true}
+use denote.Enum.Bare.{sameb}
+use Rattle.levels.specs.Levels.{lowest}
+use Rattle.machine.specs.contracts.state.Mark.{the_type}
+use Rattle.machine.specs.declared.state.Mark.{Mark}
+use Rattle.machine.specs.declared.state.Mark.TheVariants.{Unset, Wait, Exit}
+use Rattle.machine.specs.State.{Guard}
 use Rattle.machine.specs.Step.{due}
 use Rattle.machine.specs.View.{cpu_of}
 use Rattle.machine.proofs.state.State.due.Goals as goal
 
-pub returns-in-Unset : goal.returns-in-Unset
-returns-in-Unset c =
-    let s = cpu_of c.args.self.now in
-    let l = c.lowest.ensures in
-    let same = ap (λ ls. set_guard (set_levels ls s.guard) s) l.same in
-    elim c.in-Unset.is [
-      | inl e ↦ record { answer = l.answer ∙ ap (λ k. due k s.guard) (sym e); same = same }
-      | inr e ↦ record { answer = l.answer ∙ ap (λ k. due k s.guard) (sym e); same = same }
-    ]
+due_else : (k : Mark) (g : Guard) → false ≡ sameb the_type k Exit → lowest 16 0 g.ii g.ei g.levels ≡ due k g
+due_else Unset g e = refl
+due_else Wait g e = refl
+due_else Exit g e = absurd (false≢true e)
+
+pub returns-clause-answer : goal.returns-clause-answer
+returns-clause-answer c = c.lowest.ensures.answer ∙ due_else c.args.self.now.mark (cpu_of c.args.self.now).guard c.if-eq.ensures

@@ -33,13 +33,10 @@ impl<'a> Reader<'a> {
         ensures after { OnOk result (self.new.place ≡ self.old.place + 1) }
         ensures same { self.new.bytes ≡ self.old.bytes }
     {
-        if self.place >= self.bytes.len() {
-            return Err(Fault {
-                cause: Cause::CutShort,
-                place: start,
-            });
-        }
-        let byte = self.bytes[self.place];
+        let byte = self.bytes.get(self.place).copied().ok_or(Fault {
+            cause: Cause::CutShort,
+            place: start,
+        })?;
         self.place += 1;
         Ok(byte)
     }
@@ -50,9 +47,7 @@ impl<'a> Reader<'a> {
         ensures after { OnOk result (self.new.place ≡ self.old.place + 2) }
         ensures same { self.new.bytes ≡ self.old.bytes }
     {
-        let high = self.byte(start)?;
-        let low = self.byte(start)?;
-        Ok(high as u16 * 256 + low as u16)
+        Ok(u16::from_be_bytes([self.byte(start)?, self.byte(start)?]))
     }
 
     // A record, or `None` at the end, behind which no byte may stand.

@@ -1,10 +1,9 @@
 -- How a listing goes on from record to record.
-use Rattle.std.proofs.Common.{◌≡◌, ℕ, ◌+◌, ◌-◌, ◌<◌, List, [], ◌∷◌, ◌++◌, length, Some, None, Ok, Err, Option, Result, sym, refl, ap, ◌∙◌, append_assoc, append-nil, arith}
+use Rattle.std.proofs.Common.{◌≡◌, ℕ, ◌+◌, List, [], ◌++◌, Some, None, Ok, Err, Option, Result, sym, refl, ap, ◌∙◌, append_assoc, append-nil, arith}
 use Rattle.std.specs.Result.{result_unwrap_or}
 use Rattle.image.specs.declared.Fault.{Fault}
 use Rattle.image.specs.declared.Record.{Record}
 use Rattle.image.specs.Reading.{item_at, place_after, size, verdict}
-use Rattle.image.proofs.Items.{read, size_pos}
 use Rattle.image.proofs.Walks.{at_end, at_fault, from, from_start, onward}
 use Rattle.listing.specs.Listing.{line, record_lines}
 use Rattle.listing.specs.Text.{record_line}
@@ -39,21 +38,17 @@ module _ (ms bs : List ℕ) (p : ℕ) (same : ms ≡ bs) (x : Result (Option Rec
     behind : after ≡ p + size r
     behind = stands ∙ ap (place_after p) (taken x r is)
 
-    pub falls : length bs - after < length bs - p
-    falls = omega (arith, behind, (read bs p r here).within, size_pos r)
-
-    -- the text t has a line added to it, the record's, and then a line feed
-    pub goes_on : (t v u a b : List ℕ) → Listing bs p t → v ≡ t ++ a → a ≡ b → b ≡ record_line r → u ≡ v ++ (10 ∷ []) → Listing bs after u
-    goes_on t v u a b so_far added piece says ended rs accepted =
+    -- the text t has the record's line added to it
+    pub goes_on : (t u : List ℕ) → Listing bs p t → u ≡ t ++ line (record_line r) → Listing bs after u
+    goes_on t u so_far added rs accepted =
         let l = so_far rs accepted in
         let o = onward 8192 bs p l.rest r l.left here in
-        let w : record_lines rs ≡ t ++ (line (record_line r) ++ record_lines o.0) = l.whole ∙ ap (λ qs. t ++ record_lines qs) o.1 in
-        let e : v ≡ t ++ record_line r = added ∙ ap (λ k. t ++ k) (piece ∙ says) in
-        let f : u ≡ t ++ line (record_line r) = ended ∙ ap (λ k. k ++ (10 ∷ [])) e ∙ append_assoc t (record_line r) (10 ∷ []) in
         record {
           rest = o.0;
           left = ap (from 8192 bs) behind ∙ o.2;
-          whole = w ∙ sym (append_assoc t (line (record_line r)) (record_lines o.0)) ∙ ap (λ z. z ++ record_lines o.0) (sym f);
+          whole =
+              l.whole ∙ ap (λ qs. t ++ record_lines qs) o.1 ∙ sym (append_assoc t (line (record_line r)) (record_lines o.0))
+              ∙ ap (λ z. z ++ record_lines o.0) (sym added);
         }
 
   -- where no record follows, the text is whole

@@ -10,7 +10,6 @@ ghost use Rattle.std.specs.Prelude.{◌≡◌, ◌<◌, length, IfSome, if◌the
 
 use console::Signal;
 use std::alloc::{AllocError, Global};
-use std::io::Read;
 use std::{env, io};
 
 // What the arguments ask for.
@@ -87,11 +86,7 @@ fn main(rt: HostRuntime) -> io::Result<()> {
     let Some(arguments) = parsed(heap, words.as_slice())? else {
         return rt.println("usage: s3trace [STEPS] [on|off] [STEP:LEVEL ..]");
     };
-    let mut bytes = Vec::new(heap);
-    // No more is read, since no more counts.
-    rt.stdin()
-        .take(console::LIMIT as u64)
-        .read_to_end(&mut bytes)?;
+    let bytes = listing::read_image(heap, rt.stdin())?;
     rt.print(console::trace(
         heap,
         bytes.as_slice(),

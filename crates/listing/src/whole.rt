@@ -26,7 +26,7 @@ fn records(heap: Global, bytes: &[u8]) -> Result<String, AllocError>
 {
     let mut text = String::new(heap);
     let mut reader = Reader::new(bytes);
-    while let Some(record) = reader.next().unwrap_or(None) {
+    while let Ok(Some(record)) = reader.next() {
         writeln!(text, "{record}")?;
     }
     Ok(text)

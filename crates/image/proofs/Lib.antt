@@ -1,2 +1,3 @@
+pub mod Digits
 pub mod Items
 pub mod Walks

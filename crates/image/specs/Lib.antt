@@ -1,3 +1,4 @@
 pub mod Format
 pub mod Reading
 pub mod Law
+pub mod Text

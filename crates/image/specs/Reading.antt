@@ -4,6 +4,7 @@ use Rattle.image.specs.declared.Cause.TheVariants.{UnknownKind, CutShort, AfterE
 use Rattle.image.specs.declared.Fault.{Fault}
 use Rattle.image.specs.declared.Record.{Record}
 use Rattle.image.specs.declared.Record.TheVariants.{Word, Protection, Register, Level}
+use Rattle.image.specs.declared.reader.Reader.{Reader}
 use Rattle.image.specs.Format.{encode_record, fault, kind_size, storing}
 
 -- x, if the n bytes from p on are there; otherwise the record that begins at start is cut short
@@ -52,6 +53,10 @@ abbrev pub place_after : ℕ → Result (Option Record) Fault → ℕ
 place_after p (Ok (Some r)) = p + size r
 place_after p (Ok None) = p + 1
 place_after p (Err x) = p
+
+-- a reader n bytes further on
+abbrev pub ahead : ℕ → Reader → Reader
+ahead n r = record { bytes = r.bytes; place = r.place + n }
 
 -- what k makes of a value, unless there is a fault
 abbrev pub and_then : {X Y : Type 0} → Result X Fault → (X → Result Y Fault) → Result Y Fault

@@ -5,28 +5,30 @@ ghost use Rattle.std.specs.Prelude.{◌≡◌, ℕ, ◌+◌, ◌<◌, ◌≤◌,
 ghost use Rattle.image.specs.Format.{number as numbered, layer as layered, storing};
 
 mod reader;
+mod text;
 mod whole;
 
 pub use reader::Reader;
+pub use text::Hex;
 pub use whole::check;
 
 /// What is wrong with an image.
 #[derive(Clone, Copy, PartialEq, Eq, Debug)]
 pub enum Cause {
     /// Register 0 or above 7, or a protection register above 15.
-    NoRegister,
+    NoRegister = 4,
     /// An address at or above the memory's size.
-    NoAddress,
+    NoAddress = 5,
     /// A level above 15.
-    NoLevel,
-    LevelZero,
-    UnknownKind,
+    NoLevel = 6,
+    LevelZero = 7,
+    UnknownKind = 9,
     /// A record with too few bytes, or no end.
-    CutShort,
+    CutShort = 10,
     /// Bytes behind the end.
-    AfterEnd,
+    AfterEnd = 11,
     /// A level state above 2.
-    NoState,
+    NoState = 12,
 }
 
 /// Where a fault is found: in the bytes, or in what a record would store.
@@ -41,16 +43,7 @@ impl Cause {
     pub fn number(self) -> u8
         ensures { result ≡ numbered self }
     {
-        match self {
-            Cause::NoRegister => 4,
-            Cause::NoAddress => 5,
-            Cause::NoLevel => 6,
-            Cause::LevelZero => 7,
-            Cause::UnknownKind => 9,
-            Cause::CutShort => 10,
-            Cause::AfterEnd => 11,
-            Cause::NoState => 12,
-        }
+        self as u8
     }
 
     /// The layer that finds the cause.

@@ -1,6 +1,6 @@
 //! The reader over the bytes of an image.
 ghost use Rattle.std.specs.Prelude.{◌≡◌, ℕ, ◌+◌, ◌<◌, ◌≤◌, OnOk};
-ghost use Rattle.image.specs.Reading.{byte_at, word_at, item_at, place_after};
+ghost use Rattle.image.specs.Reading.{byte_at, word_at, item_at, place_after, ahead};
 
 use crate::{Cause, Fault, Record};
 
@@ -30,16 +30,12 @@ impl<'a> Reader<'a> {
     // One byte of the record that begins at `start`.
     fn byte(&mut self, start: usize) -> Result<u8, Fault>
         ensures answer { result ≡ byte_at self.old.bytes.now start self.old.place }
-        ensures after { OnOk result (self.new.place ≡ self.old.place + 1) }
-        ensures same { self.new.bytes ≡ self.old.bytes }
+        ensures after { OnOk result (self.new ≡ ahead 1 self.old) }
     {
-        if self.place >= self.bytes.len() {
-            return Err(Fault {
-                cause: Cause::CutShort,
-                place: start,
-            });
-        }
-        let byte = self.bytes[self.place];
+        let byte = self.bytes.get(self.place).copied().ok_or(Fault {
+            cause: Cause::CutShort,
+            place: start,
+        })?;
         self.place += 1;
         Ok(byte)
     }
@@ -47,19 +43,15 @@ impl<'a> Reader<'a> {
     // Two bytes, the high one first.
     fn word(&mut self, start: usize) -> Result<u16, Fault>
         ensures answer { result ≡ word_at self.old.bytes.now start self.old.place }
-        ensures after { OnOk result (self.new.place ≡ self.old.place + 2) }
-        ensures same { self.new.bytes ≡ self.old.bytes }
+        ensures after { OnOk result (self.new ≡ ahead 2 self.old) }
     {
-        let high = self.byte(start)?;
-        let low = self.byte(start)?;
-        Ok(high as u16 * 256 + low as u16)
+        Ok(u16::from_be_bytes([self.byte(start)?, self.byte(start)?]))
     }
 
     // A record, or `None` at the end, behind which no byte may stand.
     fn item(&mut self) -> Result<Option<Record>, Fault>
         ensures answer { result ≡ item_at self.old.bytes.now self.old.place }
         ensures after { OnOk result (self.new.place ≡ place_after self.old.place result) }
-        ensures same { self.new.bytes ≡ self.old.bytes }
     {
         let start = self.place;
         let record = match self.byte(start)? {
@@ -98,11 +90,12 @@ impl<'a> Reader<'a> {
         ensures after { self.new.place ≡ place_after self.old.place result }
         ensures same { self.new.bytes ≡ self.old.bytes }
     {
-        let start = self.place;
-        let item = self.item();
-        if item.is_err() {
-            self.place = start;
-        }
-        item
+        let mut ahead = Reader {
+            bytes: self.bytes,
+            place: self.place,
+        };
+        let item = ahead.item()?;
+        self.place = ahead.place;
+        Ok(item)
     }
 }

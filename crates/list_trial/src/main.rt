@@ -9,10 +9,7 @@ mod cases;
 
 // A record that is repeated, and the bytes that follow.
 fn long(heap: Global, record: &[u8], times: usize, end: &[u8]) -> Result<Vec<u8>, AllocError> {
-    let mut bytes = Vec::new(heap);
-    for _ in 0..times {
-        bytes.extend_from_slice(record)?;
-    }
+    let mut bytes = record.repeat(heap, times)?;
     bytes.extend_from_slice(end)?;
     Ok(bytes)
 }
@@ -27,7 +24,7 @@ fn show(rt: &HostRuntime, name: &str, bytes: &[u8]) -> io::Result<()> {
     }
     match image::check(bytes, 8192) {
         Ok(count) => println!(rt; "uncut: {count} records"),
-        Err(fault) => println!(rt; "uncut: {}", listing::fault_line(rt.alloc(), fault)?),
+        Err(fault) => println!(rt; "uncut: {fault}"),
     }
 }
 

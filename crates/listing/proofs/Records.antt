@@ -1,10 +1,8 @@
 -- How a listing goes on from record to record.
-use Rattle.std.proofs.Common.{◌≡◌, ℕ, ◌+◌, ◌-◌, ◌<◌, List, [], ◌∷◌, ◌++◌, length, Some, None, Ok, Err, Option, Result, sym, refl, ap, ◌∙◌, append_assoc, append-nil, arith}
-use Rattle.std.specs.Result.{result_unwrap_or}
+use Rattle.std.proofs.Common.{◌≡◌, ℕ, List, [], ◌++◌, Some, None, Ok, Err, Option, Result, sym, refl, ap, ◌∙◌, append_assoc, append-nil, arith}
 use Rattle.image.specs.declared.Fault.{Fault}
 use Rattle.image.specs.declared.Record.{Record}
-use Rattle.image.specs.Reading.{item_at, place_after, size, verdict}
-use Rattle.image.proofs.Items.{read, size_pos}
+use Rattle.image.specs.Reading.{item_at, place_after, verdict}
 use Rattle.image.proofs.Walks.{at_end, at_fault, from, from_start, onward}
 use Rattle.listing.specs.Listing.{line, record_lines}
 use Rattle.listing.specs.Text.{record_line}
@@ -22,50 +20,33 @@ Listing bs p t = (rs : List Record) → verdict 8192 bs ≡ Ok rs → Listed bs 
 pub begin : (bs : List ℕ) → Listing bs 0 []
 begin bs rs e = record { rest = rs; left = sym (from_start 8192 bs) ∙ e; whole = refl }
 
--- a record came, so nothing was misread
-taken : (x : Result (Option Record) Fault) (r : Record) → Some r ≡ result_unwrap_or x None → x ≡ Ok (Some r)
-taken (Ok i) r e = ap Ok (sym e)
-taken (Err y) r e = absurd (let z : ◌≡◌ {A = ℕ} 0 1 = cc in omega arith)
-
--- in the terms of the code: ms are the reader's bytes, and x is what it answers
-module _ (ms bs : List ℕ) (p : ℕ) (same : ms ≡ bs) (x : Result (Option Record) Fault) (answer : x ≡ item_at ms p) where
-  at_p : item_at bs p ≡ x
-  at_p = ap (λ l. item_at l p) (sym same) ∙ sym answer
-
-  module _ (r : Record) (after : ℕ) (is : Some r ≡ result_unwrap_or x None) (stands : after ≡ place_after p x) where
-    here : item_at bs p ≡ Ok (Some r)
-    here = at_p ∙ taken x r is
-
-    behind : after ≡ p + size r
-    behind = stands ∙ ap (place_after p) (taken x r is)
-
-    pub falls : length bs - after < length bs - p
-    falls = omega (arith, behind, (read bs p r here).within, size_pos r)
-
-    -- the text t has a line added to it, the record's, and then a line feed
-    pub goes_on : (t v u a b : List ℕ) → Listing bs p t → v ≡ t ++ a → a ≡ b → b ≡ record_line r → u ≡ v ++ (10 ∷ []) → Listing bs after u
-    goes_on t v u a b so_far added piece says ended rs accepted =
-        let l = so_far rs accepted in
-        let o = onward 8192 bs p l.rest r l.left here in
-        let w : record_lines rs ≡ t ++ (line (record_line r) ++ record_lines o.0) = l.whole ∙ ap (λ qs. t ++ record_lines qs) o.1 in
-        let e : v ≡ t ++ record_line r = added ∙ ap (λ k. t ++ k) (piece ∙ says) in
-        let f : u ≡ t ++ line (record_line r) = ended ∙ ap (λ k. k ++ (10 ∷ [])) e ∙ append_assoc t (record_line r) (10 ∷ []) in
-        record {
-          rest = o.0;
-          left = ap (from 8192 bs) behind ∙ o.2;
-          whole = w ∙ sym (append_assoc t (line (record_line r)) (record_lines o.0)) ∙ ap (λ z. z ++ record_lines o.0) (sym f);
-        }
+-- in the terms of the code: ms are the reader's bytes
+module _ (ms bs : List ℕ) (p : ℕ) (same : ms ≡ bs) where
+  -- the text t has the line of the record at p added to it
+  pub goes_on : (r : Record) (i : Option Record) (after : ℕ) → i ≡ Some r → Ok i ≡ item_at ms p → after ≡ place_after p (Ok i)
+      → (t u : List ℕ) → Listing bs p t → u ≡ t ++ line (record_line r) → Listing bs after u
+  goes_on r i after is answer stands t u so_far added rs accepted =
+      let l = so_far rs accepted in
+      let o = onward 8192 bs p l.rest r l.left (ap (λ b. item_at b p) (sym same) ∙ sym answer ∙ ap Ok is) in
+      record {
+        rest = o.0;
+        left = ap (from 8192 bs) (stands ∙ ap (λ j. place_after p (Ok j)) is) ∙ o.2;
+        whole =
+            l.whole ∙ ap (λ qs. t ++ record_lines qs) o.1 ∙ sym (append_assoc t (line (record_line r)) (record_lines o.0))
+            ∙ ap (λ z. z ++ record_lines o.0) (sym added);
+      }
 
   -- where no record follows, the text is whole
-  pub ends : (t : List ℕ) → Listing bs p t → None ≡ result_unwrap_or x None → (rs : List Record) → verdict 8192 bs ≡ Ok rs → t ≡ record_lines rs
-  ends t so_far e rs v = by x refl
+  pub ends : (x : Result (Option Record) Fault) → x ≡ item_at ms p → ((r : Record) → x ≡ Ok (Some r) → ⊥)
+      → (t : List ℕ) → Listing bs p t → (rs : List Record) → verdict 8192 bs ≡ Ok rs → t ≡ record_lines rs
+  ends x answer none t so_far rs v = by x (ap (λ b. item_at b p) (sym same) ∙ sym answer) none
     where
       l : Listed bs p t rs
       l = so_far rs v
 
-      by : (y : Result (Option Record) Fault) → x ≡ y → t ≡ record_lines rs
-      by (Ok i) f =
-          let none : item_at bs p ≡ Ok None = at_p ∙ f ∙ ap Ok (sym (e ∙ ap (λ z. result_unwrap_or z None) f)) in
-          let last : l.rest ≡ [] = (let g = sym l.left ∙ at_end 8192 bs p none in cc) in
+      by : (y : Result (Option Record) Fault) → item_at bs p ≡ y → ((r : Record) → y ≡ Ok (Some r) → ⊥) → t ≡ record_lines rs
+      by (Ok (Some r)) e n = absurd (n r refl)
+      by (Ok None) e n =
+          let last : l.rest ≡ [] = (let g = sym l.left ∙ at_end 8192 bs p e in cc) in
           sym (l.whole ∙ ap (λ qs. t ++ record_lines qs) last ∙ append-nil t)
-      by (Err y) f = absurd (let g = sym l.left ∙ at_fault 8192 bs p y (at_p ∙ f) in let z : ◌≡◌ {A = ℕ} 0 1 = cc in omega arith)
+      by (Err y) e n = absurd (let g = sym l.left ∙ at_fault 8192 bs p y e in let z : ◌≡◌ {A = ℕ} 0 1 = cc in omega arith)

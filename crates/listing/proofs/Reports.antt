@@ -8,7 +8,7 @@ use Rattle.memory.specs.Words.{front, whole}
 use Rattle.machine.specs.State.{Cpu, Machine, initial}
 use Rattle.engine.specs.Loads.{load_after, loaded}
 use Rattle.listing.specs.Listing.{blank, line, listing, map_after, record_lines, report}
-use Rattle.listing.specs.Text.{fault_line, loaded_line, map_line}
+use Rattle.listing.specs.Text.{loaded_line, map_line}
 
 -- one block of words is a memory of its own
 pub block : (n : ℕ) (ws : List ℕ) → ws ≡ replicate n 0 → n ≡ 8192 → front ws ≡ replicate n 0
@@ -43,14 +43,3 @@ module _ (raw bs ws : List ℕ) (s : Cpu) (cut : bs ≡ take 65536 raw) (zero : 
           ∙ ap (λ l. record_lines rs ++ l) (sym (append_assoc (loaded_line (length rs)) (10 ∷ []) (line (map_line (map_after rs)))))
           ∙ sym (found (Ok rs) e)
       by (Err x) e = absurd (let f = answer ∙ ap (λ k. counted 0 (verdict k bs)) limited ∙ ap (counted 0) e in let z : ◌≡◌ {A = ℕ} 0 1 = cc in omega arith)
-
-  -- a refused image: its fault
-  pub refused : (x : Fault) → Err x ≡ counted 0 (verdict (length (front ws)) bs) → fault_line x ++ (10 ∷ []) ≡ listing raw
-  refused x answer = by (verdict 8192 bs) refl
-    where
-      by : (v : Result (List Record) Fault) → verdict 8192 bs ≡ v → fault_line x ++ (10 ∷ []) ≡ listing raw
-      by (Ok rs) e = absurd (let f = answer ∙ ap (λ k. counted 0 (verdict k bs)) limited ∙ ap (counted 0) e in let z : ◌≡◌ {A = ℕ} 0 1 = cc in omega arith)
-      by (Err y) e =
-          let f = answer ∙ ap (λ k. counted 0 (verdict k bs)) limited ∙ ap (counted 0) e in
-          let same : x ≡ y = cc in
-          ap (λ z. line (fault_line z)) same ∙ sym (found (Err y) e)

@@ -1,10 +1,11 @@
 //! The text of an image: a line for each record, for what was loaded, for the protection registers, or for a fault.
 #![tactic(auto)]
 
-mod hex;
+mod input;
 mod lines;
 mod whole;
 
-pub use hex::Hex;
+pub use image::Hex;
+pub use input::read_image;
 pub use lines::{fault_line, loaded_line, map_line, record_line};
 pub use whole::{LIMIT, first, list};

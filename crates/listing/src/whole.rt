@@ -4,7 +4,7 @@ ghost use Rattle.image.specs.declared.Record.{Record as Item};
 ghost use Rattle.image.specs.Reading.{verdict};
 ghost use Rattle.listing.specs.Listing.{record_lines, listing};
 
-use crate::lines::{fault_line, loaded_line, map_line, record_line};
+use crate::lines::{loaded_line, map_line};
 use engine::Processor;
 use image::Reader;
 use memory::Core;
@@ -17,11 +17,7 @@ pub const LIMIT: usize = 65536;
 pub fn first(bytes: &[u8]) -> &[u8]
     ensures { result.now ≡ take 65536 bytes.now }
 {
-    if bytes.len() > LIMIT {
-        &bytes[0..LIMIT]
-    } else {
-        bytes
-    }
+    &bytes[..LIMIT.min(bytes.len())]
 }
 
 // A line for each record of an image that was accepted.
@@ -30,10 +26,8 @@ fn records(heap: Global, bytes: &[u8]) -> Result<String, AllocError>
 {
     let mut text = String::new(heap);
     let mut reader = Reader::new(bytes);
-    while let Some(record) = reader.next().unwrap_or(None) {
-        let line = record_line(heap, record)?;
-        text.push_str(line.as_str())?;
-        text.push('\n')?;
+    while let Ok(Some(record)) = reader.next() {
+        writeln!(text, "{record}")?;
     }
     Ok(text)
 }
@@ -56,9 +50,6 @@ pub fn list(heap: Global, bytes: &[u8]) -> Result<String, AllocError>
             let map = map_line(heap, &map)?;
             format!(in heap; "{records}{loaded}\n{map}\n")
         }
-        Err(fault) => {
-            let refused = fault_line(heap, fault)?;
-            format!(in heap; "{refused}\n")
-        }
+        Err(fault) => format!(in heap; "{fault}\n"),
     }
 }

@@ -10,7 +10,6 @@ ghost use Rattle.std.specs.Prelude.{◌≡◌, ◌≢◌, IfSome, MatchResult, d
 
 use console::Signal;
 use std::alloc::{AllocError, Global};
-use std::io::Read;
 use std::str::FromStr;
 use std::{env, io};
 
@@ -85,11 +84,7 @@ fn main(rt: HostRuntime) -> io::Result<()> {
     let Some(arguments) = parsed(heap, words.as_slice())? else {
         return rt.println("usage: s3trace [STEPS] [on|off] [STEP:LEVEL ..]");
     };
-    let mut bytes = Vec::new(heap);
-    // No more is read, since no more counts.
-    rt.stdin()
-        .take(console::LIMIT as u64)
-        .read_to_end(&mut bytes)?;
+    let bytes = listing::read_image(heap, rt.stdin())?;
     rt.print(console::trace(
         heap,
         bytes.as_slice(),

@@ -1,6 +1,6 @@
-use Rattle.std.proofs.Common.{sym, arith}
-use Rattle.std.proofs.lemmas.List.{take_all}
+use Rattle.std.proofs.Common.{take, ap, ◌∙◌}
+use Rattle.std.proofs.lemmas.List.{take_min}
 use Rattle.listing.proofs.whole.first.Goals as goal
 
-pub returns-else-bytes-gt-LIMIT : goal.returns-else-bytes-gt-LIMIT
-returns-else-bytes-gt-LIMIT c = sym (take_all 65536 c.args.bytes.now (omega arith))
+pub returns : goal.returns
+returns c = ap (λ n. take n c.args.bytes.now) c.min.ensures ∙ take_min 65536 c.args.bytes.now

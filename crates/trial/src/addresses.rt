@@ -2,7 +2,7 @@
 use crate::start::{Register, SIZE, Start, ZEROS};
 use std::{fmt, io};
 
-// Where the instruction stands, its D, X1 and X2.
+// Where the instruction stands, its D, and what X1 and X2 hold.
 const PLACE: u16 = 0x0200;
 
 const D: u16 = 0x0040;
@@ -43,7 +43,7 @@ impl fmt::Display for Setting {
     }
 }
 
-// P after one instruction, and the words after it.
+// What P is after one instruction, whose store is seen in the words.
 fn after(words: &mut [u16], instruction: u16) -> u16 {
     let start = Start {
         registers: &[
@@ -89,8 +89,8 @@ pub(crate) fn run(rt: &(impl Print + AllocGlobal)) -> io::Result<()> {
     println!(rt;
         "an instruction at 0x{PLACE:04x} with D 0x{D:02x}, X1 0x{FIRST_INDEX:04x} and X2 0x{SECOND_INDEX:04x}"
     )?;
-    for setting in 0..16 {
-        try_setting(rt, Setting(setting))?;
+    for setting in (0..16).map(Setting) {
+        try_setting(rt, setting)?;
     }
     Ok(())
 }

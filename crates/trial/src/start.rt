@@ -5,7 +5,7 @@ use memory::Core;
 /// How many words of core memory there are.
 pub(crate) const SIZE: usize = 8192;
 
-/// A register, in the order of the numbers.
+/// A register, whose number is its place here.
 #[derive(Clone, Copy, Debug)]
 pub(crate) enum Register {
     Z,
@@ -19,7 +19,7 @@ pub(crate) enum Register {
 }
 
 impl Register {
-    /// What the register holds, of all of them.
+    /// What the register holds.
     pub(crate) fn of(self, registers: [u16; 8]) -> u16 {
         registers[self as usize]
     }

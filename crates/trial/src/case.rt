@@ -1,6 +1,6 @@
 //! One case: what a processor is given, what is done, and what is seen.
 use crate::start::{Register, SIZE, Start};
-use crate::text::{Answer, Stepped, Word, signal_name};
+use crate::text::{Answer, Stepped, Word};
 use engine::{Processor, Running};
 use memory::Core;
 use std::io;
@@ -22,7 +22,7 @@ impl Act {
         match self {
             Act::Step => rt.print(Stepped(processor.step())),
             Act::Signal(level) => {
-                let answer = Answer::from(processor.signal(level).map(signal_name));
+                let answer = Answer::from(processor.signal(level));
                 print!(rt; "signal {level} is {answer}")
             }
             Act::Register(register) => {

@@ -1,5 +1,5 @@
 //! What a processor answers, as text.
-use machine::{Counts, Outcome, Refusal, Signalled, Violation, ViolationKind};
+use machine::{Counts, Outcome, Refusal, Violation};
 use std::fmt;
 
 /// What a step was.
@@ -26,27 +26,7 @@ struct Found(Violation);
 impl fmt::Display for Found {
     fn fmt<W: fmt::Write>(&self, f: &mut fmt::Formatter<W>) -> fmt::Result {
         let Violation { kind, place, aim } = self.0;
-        write!(
-            f,
-            "{} violation at 0x{place:04x}, aim 0x{aim:04x}",
-            kind_name(kind)
-        )
-    }
-}
-
-fn kind_name(kind: ViolationKind) -> &'static str {
-    match kind {
-        ViolationKind::Entry => "entry",
-        ViolationKind::Operation => "operation",
-        ViolationKind::Store => "store",
-    }
-}
-
-/// What a signal came to.
-pub(crate) fn signal_name(signalled: Signalled) -> &'static str {
-    match signalled {
-        Signalled::Waiting => "waiting",
-        Signalled::Dropped => "dropped",
+        write!(f, "{kind} violation at 0x{place:04x}, aim 0x{aim:04x}")
     }
 }
 

@@ -11,5 +11,5 @@ returns g c =
     let x = at g.M.Memory.words c.args.self.now in
     let says = c.in_ok-violation.ensures ∙ ap violation_line c.violation.ensures in
     let e = ap (λ v. x.text ++ (counts_line x.counts ++ (10 ∷ (v ++ (10 ∷ []))))) says
-        ∙ ap (λ l. x.text ++ l) (sym (append_assoc (counts_line x.counts) (10 ∷ []) (line (violation_line x.machine.cpu.violation)))) in
+    ∙ ap (λ l. x.text ++ l) (sym (append_assoc (counts_line x.counts) (10 ∷ []) (line (violation_line x.machine.cpu.violation)))) in
     IfOk-weaker c.format.result _ _ (λ s d. d ∙ e) c.format.ensures.ok

@@ -1,5 +1,5 @@
 //! What only an idle processor takes.
-ghost use Rattle.std.specs.Prelude.{◌≡◌, true, length};
+ghost use Rattle.std.specs.Prelude.{◌≡◌, true};
 ghost use Rattle.isolation.specs.Isolation.{Isolated};
 ghost use Rattle.machine.specs.Calls.{gone};
 ghost use Rattle.machine.specs.State.{initial, protect_answer, put_answer};

@@ -2,7 +2,7 @@
 ghost use Rattle.std.specs.Prelude.{◌≡◌};
 ghost use Rattle.memory.specs.Outer.{outer_row};
 ghost use Rattle.memory.specs.Sizes.{front_sized};
-ghost use Rattle.memory.specs.Words.{front, whole};
+ghost use Rattle.memory.specs.Words.{front};
 
 use crate::Memory;
 

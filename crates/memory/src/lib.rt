@@ -31,7 +31,8 @@ pub trait Memory {
     fn size(&self) -> u32
         ensures answer { result ≡ length (words self.now) };
 
-    // An address at or above the size has no word. An exclusive reference, so that an implementation may change inside while its meaning stays.
+    // An address at or above the size has no word.
+    // The reference is exclusive, so that an implementation may change inside while its meaning stays.
     fn fetch(&mut self, address: u16) -> Option<u16>
         ensures answer { result ≡ fetched_at (words self.old) address }
         ensures same { words self.new ≡ words self.old }

@@ -1,5 +1,5 @@
 // A memory that owns its words and counts its fetches.
-ghost use Rattle.std.specs.Prelude.{◌≡◌, ℕ, ◌+◌, length, replicate};
+ghost use Rattle.std.specs.Prelude.{◌≡◌, length, replicate};
 ghost use Rattle.memory.specs.Outer.{nothing};
 ghost use Rattle.memory_trial.specs.Full.{full_sized};
 

@@ -1,13 +1,7 @@
-use Rattle.std.proofs.Common.{refl, ◌∙◌, arith}
+use Rattle.std.proofs.Common.{◌∙◌, arith}
 use Rattle.engine.specs.View.{seen}
-use Rattle.engine.proofs.Runs.{begin, more, not_run, ran}
+use Rattle.engine.proofs.Runs.{more, ran}
 use Rattle.engine.proofs.processor.Processor.run.Goals as goal
-
-pub loop-init : goal.loop-init
-loop-init g c = (begin c.args.steps (seen g.M.Memory.words c.args.self.now), refl)
-
-pub tally-requires : goal.tally-requires
-tally-requires g c = omega (arith, c.loop.invariant.0.sum)
 
 pub loop-preserved : goal.loop-preserved
 loop-preserved g c =
@@ -15,11 +9,6 @@ loop-preserved g c =
       more c.args.steps c.loop.counter _ _ _ c.loop.counts _ c.step-outcome.result c.loop-test.true c.loop.invariant.0 s.answer s.after c.tally.ensures,
       s.outside ∙ c.loop.invariant.1,
     )
-
-pub returns-then-steps-gt1000000 : goal.returns-then-steps-gt1000000
-returns-then-steps-gt1000000 g c =
-    let e = not_run c.args.steps (seen g.M.Memory.words c.args.self.now) (omega arith) in
-    record { answer = e.answer; after = e.after; outside = refl; sum = tt; confined = e.confined }
 
 pub returns : goal.returns
 returns g c =

@@ -1,5 +1,5 @@
 -- Runs, step by step.
-use Rattle.std.proofs.Common.{◌≡◌, ℕ, suc, ◌+◌, ◌-◌, ◌<◌, ◌≤◌, true, List, length, get_or, drop, replicate, Ok, Err, Result, sym, refl, ap, ◌∙◌, add-zero, add_assoc, arith}
+use Rattle.std.proofs.Common.{◌≡◌, ℕ, suc, ◌+◌, ◌-◌, ◌<◌, ◌≤◌, true, List, length, get_or, drop, replicate, Ok, Err, Result, sym, ap, ◌∙◌, add-zero, add_assoc, arith}
 use Rattle.std.proofs.lemmas.List.{at_drop_all, at_drop_more}
 use Rattle.std.proofs.lemmas.Bool.{cond-false, cond-true, le-ltb, lt-ltb}
 use Rattle.machine.specs.declared.call.Call.{Call}
@@ -63,15 +63,6 @@ pub record HalfRun (n i : ℕ) (start m : Machine) (c : Counts) : Type 0 where
   pub counts : counts_of (trail start (replicate n tick)) ≡ plus c (counts_of (trail m (replicate (n - i) tick)))
   pub sum : total c ≡ i
 
-pub begin : (n : ℕ) (m : Machine) → HalfRun n 0 m m no_counts
-begin n m =
-    let z : n ≡ n - 0 = omega arith in
-    record {
-      ends = ap (λ k. end m (replicate k tick)) z;
-      counts = none_plus (counts_of (trail m (replicate n tick))) ∙ ap (λ k. plus no_counts (counts_of (trail m (replicate k tick)))) z;
-      sum = refl;
-    }
-
 pub more : (n i : ℕ) (start m t : Machine) (c d : Counts) (o : Outcome) → i < n → HalfRun n i start m c → o ≡ (step m).outcome → t ≡ (step m).after → d ≡ tallied o c → HalfRun n (i + 1) start t d
 more n i start m t c d o h r eo et ed =
     let k = n - (i + 1) in
@@ -110,15 +101,6 @@ ran n i start m c h l r =
           ∙ ap (λ x. or_refusal x (counts_of (trail start (if_ok x (replicate n tick))))) (sym ok);
       after = sym (r.ends ∙ ap (λ j. end m (replicate j tick)) k) ∙ ap (λ x. end start (if_ok x (replicate n tick))) (sym ok);
       confined = confines n start;
-    }
-
-pub not_run : (n : ℕ) (m : Machine) → 1000000 < n → Ran n m m (Err RunTooLong)
-not_run n m h =
-    let e = refused n h in
-    record {
-      answer = ap (λ x. or_refusal x (counts_of (trail m (if_ok x (replicate n tick))))) (sym e);
-      after = ap (λ x. end m (if_ok x (replicate n tick))) (sym e);
-      confined = confines n m;
     }
 
 -- one call of a list

@@ -1,14 +1,13 @@
 -- Runs, step by step.
-use Rattle.std.proofs.Common.{◌≡◌, ℕ, suc, ◌+◌, ◌-◌, ◌<◌, ◌≤◌, true, List, length, get_or, drop, replicate, Ok, Err, Result, sym, ap, ◌∙◌, add-zero, add_assoc, arith}
+use Rattle.std.proofs.Common.{◌≡◌, ℕ, suc, ◌+◌, ◌-◌, ◌<◌, ◌≤◌, true, List, length, get_or, drop, replicate, Ok, Result, sym, ap, ◌∙◌, add-zero, add_assoc, arith}
 use Rattle.std.proofs.lemmas.List.{at_drop_all, at_drop_more}
-use Rattle.std.proofs.lemmas.Bool.{cond-false, cond-true, le-ltb, lt-ltb}
+use Rattle.std.proofs.lemmas.Bool.{cond-false, le-ltb}
 use Rattle.machine.specs.declared.call.Call.{Call}
 use Rattle.machine.specs.declared.call.Call.TheVariants.{Run}
 use Rattle.machine.specs.declared.call.Counts.{Counts}
 use Rattle.machine.specs.declared.call.Outcome.{Outcome}
 use Rattle.machine.specs.declared.call.Outcome.TheVariants.{Entered, Idle, Violated, Stalled, NotCarried, Done}
 use Rattle.machine.specs.declared.refusal.Refusal.{Refusal}
-use Rattle.machine.specs.declared.refusal.Refusal.TheVariants.{RunTooLong}
 use Rattle.machine.specs.Calls.{after_call, after_calls, counted, counts_of, end, if_ok, no_counts, or_refusal, plus, run_answer, run_refusal, run_trail, tallied, tick, total, trail}
 use Rattle.machine.specs.State.{Machine}
 use Rattle.machine.specs.Step.{Moment, step}
@@ -35,19 +34,6 @@ plus_none x = λ i. record {
   entries = add-zero x.entries i;
   idles = add-zero x.idles i;
 }
-
-none_plus : (x : Counts) → x ≡ plus no_counts x
-none_plus x = λ i. record {
-  done = zero_plus x.done i;
-  not_carried = zero_plus x.not_carried i;
-  violations = zero_plus x.violations i;
-  stalls = zero_plus x.stalls i;
-  entries = zero_plus x.entries i;
-  idles = zero_plus x.idles i;
-}
-  where
-    zero_plus : (n : ℕ) → n ≡ 0 + n
-    zero_plus n = omega arith
 
 total_tallied : (o : Outcome) (n : Counts) → total (tallied o n) ≡ total n + 1
 total_tallied (Entered k) n = omega arith
@@ -80,9 +66,6 @@ more n i start m t c d o h r eo et ed =
 -- a run that is not refused
 accepted : (n : ℕ) → n ≤ 1000000 → run_refusal n ≡ Ok tt
 accepted n h = cond-false _ _ _ (le-ltb 1000000 n h)
-
-pub refused : (n : ℕ) → 1000000 < n → run_refusal n ≡ Err RunTooLong
-refused n h = cond-true _ _ _ (lt-ltb 1000000 n h)
 
 pub record Ran (n : ℕ) (start m : Machine) (r : Result Counts Refusal) : Type 0 where
   pub answer : r ≡ run_answer n start

@@ -1,13 +1,12 @@
 -- Runs, step by step.
-use Rattle.std.proofs.Common.{◌≡◌, ℕ, suc, ◌+◌, ◌-◌, ◌<◌, ◌≤◌, true, List, length, get_or, drop, replicate, Ok, Err, Result, sym, ap, ◌∙◌, add-zero, add_assoc, arith}
+use Rattle.std.proofs.Common.{◌≡◌, ℕ, suc, ◌+◌, ◌-◌, ◌<◌, ◌≤◌, true, List, length, get_or, drop, replicate, Ok, Result, sym, ap, ◌∙◌, add-zero, add_assoc, arith}
 use Rattle.std.proofs.lemmas.List.{at_drop_all, at_drop_more}
-use Rattle.std.proofs.lemmas.Bool.{cond-false, cond-true, le-ltb, lt-ltb}
+use Rattle.std.proofs.lemmas.Bool.{cond-false, le-ltb}
 use Rattle.machine.specs.declared.call.Call.{Call}
 use Rattle.machine.specs.declared.call.Call.TheVariants.{Run}
 use Rattle.machine.specs.declared.call.Counts.{Counts}
 use Rattle.machine.specs.declared.call.Outcome.{Outcome}
 use Rattle.machine.specs.declared.refusal.Refusal.{Refusal}
-use Rattle.machine.specs.declared.refusal.Refusal.TheVariants.{RunTooLong}
 use Rattle.machine.specs.Calls.{after_call, after_calls, counted, counts_of, end, if_ok, no_counts, or_refusal, plus, run_answer, run_refusal, run_trail, tallied, tick, total, trail}
 use Rattle.machine.specs.State.{Machine}
 use Rattle.machine.specs.Step.{Moment, step}
@@ -83,9 +82,6 @@ more n i start m t c d o h r eo et ed =
 accepted : (n : ℕ) → n ≤ 1000000 → run_refusal n ≡ Ok tt
 accepted n h = cond-false _ _ _ (le-ltb 1000000 n h)
 
-pub refused : (n : ℕ) → 1000000 < n → run_refusal n ≡ Err RunTooLong
-refused n h = cond-true _ _ _ (lt-ltb 1000000 n h)
-
 pub record Ran (n : ℕ) (start m : Machine) (r : Result Counts Refusal) : Type 0 where
   pub answer : r ≡ run_answer n start
   pub after : m ≡ after_call (Run n) start
@@ -103,15 +99,6 @@ ran n i start m c h l r =
           ∙ ap (λ x. or_refusal x (counts_of (trail start (if_ok x (replicate n tick))))) (sym ok);
       after = sym (r.ends ∙ ap (λ j. end m (replicate j tick)) k) ∙ ap (λ x. end start (if_ok x (replicate n tick))) (sym ok);
       confined = confines n start;
-    }
-
-pub not_run : (n : ℕ) (m : Machine) → 1000000 < n → Ran n m m (Err RunTooLong)
-not_run n m h =
-    let e = refused n h in
-    record {
-      answer = ap (λ x. or_refusal x (counts_of (trail m (if_ok x (replicate n tick))))) (sym e);
-      after = ap (λ x. end m (if_ok x (replicate n tick))) (sym e);
-      confined = confines n m;
     }
 
 -- one call of a list

@@ -3,11 +3,6 @@ use Rattle.machine.specs.Step.{act, on_cpu}
 use Rattle.engine.specs.View.{seen}
 use Rattle.engine.proofs.processor.Processor.act.Goals as goal
 
-pub returns-in-Read : goal.returns-in-Read
-returns-in-Read g c =
-    let m = seen g.M.Memory.words c.args.self.now in
-    record { after = ap (λ s. on_cpu (λ _. s) m) c.read-in-Read.ensures ∙ ap (λ x. act c.args.exits x m) (sym c.in-Read.is); outside = refl }
-
 pub returns-in-Write : goal.returns-in-Write
 returns-in-Write g c =
     let m = seen g.M.Memory.words c.args.self.now in

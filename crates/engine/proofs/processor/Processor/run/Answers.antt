@@ -1,7 +1,7 @@
 use Rattle.std.proofs.Common.{refl, ◌∙◌, arith}
 use Rattle.machine.proofs.Tallies.{none_counted}
 use Rattle.engine.specs.View.{seen}
-use Rattle.engine.proofs.Runs.{begin, more, not_run, ran}
+use Rattle.engine.proofs.Runs.{begin, more, ran}
 use Rattle.engine.proofs.processor.Processor.run.Goals as goal
 
 pub loop-init : goal.loop-init
@@ -13,11 +13,6 @@ loop-preserved g c =
       more c.args.steps c.loop.counter _ _ _ c.loop.counts _ c.step-outcome.result c.loop-test.true c.loop.invariant.0 s.answer s.after (c.tally.ensures.exact (omega (arith, c.loop.invariant.0.sum))),
       s.outside ∙ c.loop.invariant.1,
     )
-
-pub returns-then-steps-gt1000000 : goal.returns-then-steps-gt1000000
-returns-then-steps-gt1000000 g c =
-    let e = not_run c.args.steps (seen g.M.Memory.words c.args.self.now) (omega arith) in
-    record { answer = e.answer; after = e.after; outside = refl; sum = tt; confined = e.confined }
 
 pub returns : goal.returns
 returns g c =

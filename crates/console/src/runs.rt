@@ -38,7 +38,7 @@ pub fn run_line(heap: Global, bytes: &[u8]) -> Result<String, AllocError>
     ensures { IfOk result (λ s. string_bytes s ≡ run_line bytes.now) }
 {
     match run(first(bytes)) {
-        Ok(counts) => format!(in heap; "{counts}\n"),
+        Ok(counts) => format!(in heap; "{}\n", counts_line(heap, counts)?),
         Err(fault) => format!(in heap; "{}\n", fault.cause.number()),
     }
 }

@@ -72,8 +72,9 @@ impl<'a, M: Memory> Tracer<'a, M> {
     fn end(&self) -> Result<String, AllocError>
         ensures { IfOk result (λ s. string_bytes s ≡ ended (at M.words self.now)) }
     {
+        let counts = counts_line(self.heap, self.counts)?;
         let violation = violation_line(self.heap, self.processor.violation())?;
-        format!(in self.heap; "{}{}\n{violation}\n", self.text, self.counts)
+        format!(in self.heap; "{}{counts}\n{violation}\n", self.text)
     }
 }
 

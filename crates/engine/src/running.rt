@@ -50,7 +50,7 @@ impl<K: Live, M: Memory> Processor<K, M> {
         Ok(signalled)
     }
 
-    // Makes a call; a refusal ends it.
+    // Makes a call, or says why it is refused.
     fn carry_out(&mut self, call: Call) -> Result<Answer, Refusal>
         ensures answer { as_answer (λ x. x) result ≡ answered call (seen M.words self.old) }
         ensures after { seen M.words self.new ≡ after_call call (seen M.words self.old) }

@@ -1,4 +1,4 @@
-//! The story, and the sentences on what a processor does and holds.
+//! The story.
 use crate::hall;
 use crate::sentence::Step;
 use engine::{Processor, Running};

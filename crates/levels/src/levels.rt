@@ -1,5 +1,6 @@
 //! The sixteen levels.
 ghost use Rattle.std.specs.Prelude.{◌≡◌, ◌∷◌, replicate, slice_set};
+ghost use Rattle.levels.specs.Banks.{records};
 ghost use Rattle.levels.specs.Levels.{bits_of, control_each, level_at, lowest as entering, released, told};
 
 use crate::bank::Bank;
@@ -15,15 +16,16 @@ pub struct Levels {
 }
 
 impl Model for Levels {
-    ghost use Rattle.std.specs.Prelude.{◌≡◌, true, List};
+    ghost use Rattle.std.specs.Prelude.{◌≡◌, true};
     ghost use Rattle.levels.specs.declared.level.Level.{Level};
+    ghost use Rattle.levels.specs.declared.bank.Bank.{Bank};
 
-    ghost Value = { List Level };
+    ghost Value = { Bank Level };
 
     ghost use Rattle.levels.specs.Banks.{records};
     ghost use Rattle.levels.specs.Levels.{Quiet};
 
-    ghost view = { λ x. records x.bank };
+    ghost view = { λ x. x.bank };
 
     ghost invariant = { λ x. x.calm ≡ true → Quiet (records x.bank) };
 }
@@ -31,7 +33,7 @@ impl Model for Levels {
 impl Levels {
     /// One record for level 0, another for each of the others.
     pub fn new(first: Level, other: Level) -> Levels
-        ensures { result ≡ first ∷ replicate 15 other }
+        ensures { records result ≡ first ∷ replicate 15 other }
     {
         Levels {
             bank: Bank::new(first, other),
@@ -41,14 +43,14 @@ impl Levels {
 
     /// The record of a level; above level 15 it is disarmed and disabled.
     pub fn at(&self, number: u8) -> Level
-        ensures { result ≡ level_at self.now number }
+        ensures { result ≡ level_at (records self.now) number }
     {
         self.bank.level(number)
     }
 
     /// Sets the record of a level, or does nothing above level 15.
     pub fn put(&mut self, number: u8, level: Level)
-        ensures { self.new ≡ slice_set self.old number level }
+        ensures { records self.new ≡ slice_set (records self.old) number level }
     {
         self.calm = false;
         self.bank.put(number, level);
@@ -56,7 +58,7 @@ impl Levels {
 
     /// Hands an event to a level, or does nothing above level 15.
     pub fn tell(&mut self, number: u8, event: Event)
-        ensures { self.new ≡ told number event self.old }
+        ensures { records self.new ≡ told number event (records self.old) }
     {
         self.calm = false;
         self.bank.tell(number, event);
@@ -64,8 +66,8 @@ impl Levels {
 
     /// The lowest level that may enter.
     pub fn lowest(&mut self, inhibits: Inhibits) -> Option<u8>
-        ensures answer { result ≡ entering 16 0 inhibits.ii inhibits.ei self.old }
-        ensures same { self.new ≡ self.old }
+        ensures answer { result ≡ entering 16 0 inhibits.ii inhibits.ei (records self.old) }
+        ensures same { records self.new ≡ records self.old }
     {
         if self.calm {
             return None;
@@ -76,7 +78,7 @@ impl Levels {
 
     /// Hands the exit event to the lowest active level.
     pub fn release(&mut self)
-        ensures { self.new ≡ released 16 0 self.old }
+        ensures { records self.new ≡ released 16 0 (records self.old) }
     {
         self.calm = false;
         self.bank.release();
@@ -84,7 +86,7 @@ impl Levels {
 
     /// Hands a control of WD to each of levels 1 to 15 whose bit is 1.
     pub fn control_each(&mut self, control: LevelControl, bits: u16)
-        ensures { self.new ≡ control_each 15 1 control bits self.old }
+        ensures { records self.new ≡ control_each 15 1 control bits (records self.old) }
     {
         self.calm = false;
         self.bank.control_each(control, bits);
@@ -92,7 +94,7 @@ impl Levels {
 
     /// A word with bit k set for each level k that has a property.
     pub fn bits(&self, property: Property) -> u16
-        ensures { result ≡ bits_of 16 0 property self.now }
+        ensures { result ≡ bits_of 16 0 property (records self.now) }
     {
         self.bank.bits(property)
     }

@@ -6,7 +6,7 @@ use std::alloc::Global;
 use std::io;
 use std::io::Read;
 
-/// The bytes that count of those that a reader gives: no more are read.
+/// The bytes of a reader that count, where it gives them all; no more are read, and of standard input no clause can speak.
 pub fn read_image<R: Read + Drop>(heap: Global, reader: R) -> io::Result<Vec<u8>>
     ensures { IfOk result (λ v. IfSome (R.remaining reader) (λ bs. v.items ≡ take 65536 bs)) }
 {

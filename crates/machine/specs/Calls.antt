@@ -101,18 +101,18 @@ abbrev pub tallied : Outcome → Counts → Counts
 tallied o n = plus n (counted o)
 
 -- a count with k more; one that 32 bits cannot hold stops at their greatest number
-abbrev pub raised : ℕ → ℕ → ℕ
-raised k n = cond (k == 0) n (min (n + k) (2 ^ 32 - 1))
+abbrev pub capped : ℕ → ℕ → ℕ
+capped k n = cond (k == 0) n (min (n + k) (2 ^ 32 - 1))
 
 -- counts and one step more, as 32 bits hold them
-abbrev pub held_tally : Outcome → Counts → Counts
-held_tally o n = record {
-  done = raised (counted o).done n.done;
-  not_carried = raised (counted o).not_carried n.not_carried;
-  violations = raised (counted o).violations n.violations;
-  stalls = raised (counted o).stalls n.stalls;
-  entries = raised (counted o).entries n.entries;
-  idles = raised (counted o).idles n.idles;
+abbrev pub capped_tally : Outcome → Counts → Counts
+capped_tally o n = record {
+  done = capped (counted o).done n.done;
+  not_carried = capped (counted o).not_carried n.not_carried;
+  violations = capped (counted o).violations n.violations;
+  stalls = capped (counted o).stalls n.stalls;
+  entries = capped (counted o).entries n.entries;
+  idles = capped (counted o).idles n.idles;
 }
 
 -- the counts of steps

@@ -1,5 +1,6 @@
 -- The state as the code holds it, seen as a cpu.
 use Rattle.std.specs.Prelude.{ℕ, List}
+use Rattle.levels.specs.Banks.{records}
 use Rattle.machine.specs.declared.state.State.{State}
 use Rattle.machine.specs.State.{Cpu, Machine}
 
@@ -7,7 +8,7 @@ use Rattle.machine.specs.State.{Cpu, Machine}
 abbrev pub cpu_of : State → Cpu
 cpu_of s = record {
   work = s.work;
-  guard = record { protection = s.protection; ii = s.inhibits.ii; ei = s.inhibits.ei; levels = s.levels };
+  guard = record { protection = s.protection; ii = s.inhibits.ii; ei = s.inhibits.ei; levels = records s.levels };
   pp = s.pp;
   mark = s.mark;
   last = s.last;

@@ -76,6 +76,7 @@ impl State {
             return Some(self.pp);
         }
         let page = self.protection.protects(self.work.p);
+        // The background may fetch from an unprotected page alone, and stays the background there.
         (self.pp || !page).then_some(page)
     }
 

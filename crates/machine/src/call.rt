@@ -1,6 +1,6 @@
 //! The calls of a running processor, and their answers.
 ghost use Rattle.std.specs.Prelude.{◌≡◌};
-ghost use Rattle.machine.specs.Calls.{Room, held_tally, tallied};
+ghost use Rattle.machine.specs.Calls.{Room, capped_tally, tallied};
 ghost use Rattle.machine.specs.Step.{carried, class};
 
 use crate::instruction::Instruction;
@@ -39,7 +39,7 @@ pub struct Counts {
 impl Counts {
     /// Counts one step more; a count that can go no higher stays.
     pub fn tally(&mut self, outcome: Outcome)
-        ensures held { self.new ≡ held_tally outcome self.old }
+        ensures capped { self.new ≡ capped_tally outcome self.old }
         ensures exact { Room self.old → self.new ≡ tallied outcome self.old }
     {
         match outcome {

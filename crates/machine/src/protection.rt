@@ -33,7 +33,8 @@ impl Protection {
     pub fn words(&self) -> [u16; 16]
         ensures { result ≡ self.now }
     {
-        self.registers
+        let Protection { registers } = *self;
+        registers
     }
 
     /// Sets register 0 to 15.

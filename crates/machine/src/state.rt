@@ -8,9 +8,8 @@ use crate::work::Work;
 use levels::{Inhibits, Level, LevelState, Levels};
 
 /// What stands between an instruction and the next fetch.
-#[derive(Clone, Copy, PartialEq, Eq, Debug, Default)]
+#[derive(Clone, Copy, PartialEq, Eq, Debug)]
 pub enum Mark {
-    #[default]
     Unset,
     Wait,
     Exit,
@@ -61,7 +60,7 @@ impl State {
             inhibits: Inhibits::default(),
             levels: Levels::new(first, Level::default()),
             pp: false,
-            mark: Mark::default(),
+            mark: Mark::Unset,
             last: 0,
             violation: None,
             switch: false,

@@ -1,4 +1,4 @@
-//! How what a processor did is shown.
+//! Texts of violations, signals and counts.
 ghost use Rattle.std.specs.Prelude.{Some};
 ghost use Rattle.machine.specs.Text.{counts_line, kind_name, signalled_name};
 

@@ -36,7 +36,7 @@ impl Plan {
         self.portions
             .iter()
             .enumerate()
-            .any(|(i, held)| i != block as usize && *held == portion)
+            .any(|(other, theirs)| other != block as usize && *theirs == portion)
     }
 
     pub fn set(&mut self, block: u8, portion: u8) -> Result<(), PlanRefusal>

@@ -37,13 +37,3 @@ module _ (bs ws : List ℕ) (s : Cpu) (zero : ws ≡ replicate 8192 0) (new : s 
             holds = after ∙ ap (λ x. load_after x (record { cpu = s; words = front ws })) v ∙ ap (loaded rs) starts;
           }
       by (Err x) e = absurd (let f = answer ∙ ap (λ k. counted 0 (verdict k bs)) limited ∙ ap (counted 0) e in let z : ◌≡◌ {A = ℕ} 0 1 = cc in omega arith)
-
-  pub refused : (x : Fault) → Err x ≡ counted 0 (verdict (length (front ws)) bs) → verdict 8192 bs ≡ Err x
-  refused x answer = by (verdict 8192 bs) refl
-    where
-      by : (v : Result (List Record) Fault) → verdict 8192 bs ≡ v → verdict 8192 bs ≡ Err x
-      by (Ok rs) e = absurd (let f = answer ∙ ap (λ k. counted 0 (verdict k bs)) limited ∙ ap (counted 0) e in let z : ◌≡◌ {A = ℕ} 0 1 = cc in omega arith)
-      by (Err y) e =
-          let f = answer ∙ ap (λ k. counted 0 (verdict k bs)) limited ∙ ap (counted 0) e in
-          let same : y ≡ x = cc in
-          e ∙ ap Err same

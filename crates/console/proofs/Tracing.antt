@@ -1,15 +1,13 @@
 -- How a trace goes on, line by line.
-use Rattle.std.proofs.Common.{◌≡◌, ℕ, suc, ◌+◌, ◌-◌, ◌<◌, ◌≤◌, Bool, true, false, cond, eqb, List, [], ◌∷◌, length, get_or, take, drop, sym, refl, ap, ◌∙◌, arith}
+use Rattle.std.proofs.Common.{◌≡◌, ℕ, suc, ◌+◌, ◌-◌, ◌<◌, ◌≤◌, Bool, true, false, cond, eqb, List, [], ◌∷◌, length, get_or, drop, sym, refl, ap, ◌∙◌, arith}
 use Rattle.std.proofs.lemmas.List.{at_drop_all, at_drop_more}
 use Rattle.std.proofs.lemmas.Bool.{cond-false, le-ltb}
-use Rattle.machine.specs.Calls.{gone, total}
+use Rattle.machine.specs.Calls.{total}
 use Rattle.machine.specs.State.{Machine}
 use Rattle.machine.specs.Step.{step}
 use Rattle.machine.proofs.Tallies.{total_tallied}
-use Rattle.image.specs.Reading.{verdict}
 use Rattle.console.specs.declared.signals.Signal.{Signal}
-use Rattle.console.specs.Traces.{Traced, begun, ended, signal_at, signals_at, step_at, trace_of, trace_report, trace_text, traced}
-use Rattle.console.proofs.Loads.{Loaded}
+use Rattle.console.specs.Traces.{Traced, begun, ended, signal_at, signals_at, step_at, trace_of, traced}
 
 -- one more of the signals
 pub signals_more : (ss : List Signal) (d : Signal) (i n : ℕ) (start x y : Traced) → i < length ss → signals_at n ss start ≡ signals_at n (drop i ss) x
@@ -55,9 +53,3 @@ whole n i ss m x short all h =
     let z : n - i ≡ 0 = omega arith in
     let done : traced n 0 ss (begun m) ≡ x = h.goes ∙ ap (λ k. traced k i ss x) z in
     ap ended (sym done) ∙ sym (cond-false _ _ _ (le-ltb 1000000 n short))
-
--- the same of an accepted image
-pub trace_loaded : (n : ℕ) (on : Bool) (ss : List Signal) (raw bs : List ℕ) (m g : Machine) → bs ≡ take 65536 raw → Loaded bs m → g ≡ gone on m
-    → trace_of n ss g ≡ trace_text n on ss raw
-trace_loaded n on ss raw bs m g cut l goes =
-    ap (trace_of n ss) (goes ∙ ap (gone on) l.holds) ∙ sym (ap (trace_report n on ss) l.says) ∙ ap (λ k. trace_report n on ss (verdict 8192 k)) cut

@@ -1,4 +1,5 @@
 pub mod Lines
 pub mod Runs
 pub mod Signals
+pub mod Start
 pub mod Traces

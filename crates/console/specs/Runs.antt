@@ -6,13 +6,18 @@ use Rattle.image.specs.Format.{number}
 use Rattle.image.specs.Reading.{verdict}
 use Rattle.machine.specs.declared.call.Counts.{Counts}
 use Rattle.machine.specs.Calls.{counts_of, gone, run_trail}
+use Rattle.machine.specs.State.{Machine}
 use Rattle.engine.specs.Loads.{loaded}
 use Rattle.listing.specs.Listing.{blank, line}
 use Rattle.machine.specs.Text.{counts_line}
 
+-- the counts of n steps of a machine
+unfoldable pub counts_after : ℕ → Machine → Counts
+counts_after n m = counts_of (run_trail n m)
+
 -- the counts of n steps of a new processor over 8192 zero words, with the records loaded and the protect switch on
-unfoldable pub run_counts : ℕ → List Record → Counts
-run_counts n rs = counts_of (run_trail n (gone true (loaded rs blank)))
+abbrev pub run_counts : ℕ → List Record → Counts
+run_counts n rs = counts_after n (gone true (loaded rs blank))
 
 -- the same, or the fault
 abbrev pub ran : ℕ → Result (List Record) Fault → Result Counts Fault

@@ -4,6 +4,7 @@
 mod lines;
 mod runs;
 mod signals;
+mod start;
 mod traces;
 
 pub use lines::{counts_line, signal_line, step_line, violation_line};

@@ -4,12 +4,13 @@ ghost use Rattle.machine.specs.Calls.{Room};
 ghost use Rattle.engine.specs.View.{seen};
 ghost use Rattle.console.specs.Traces.{at, begun, ended, signal_at, signals_at, step_at, trace_of, trace_text};
 
-use crate::lines::{signal_line, step_line, violation_line};
+use crate::lines::{counts_line, signal_line, step_line, violation_line};
 use crate::signals::Signal;
+use crate::start::with_running;
 use engine::{Processor, Running};
 use listing::{fault_line, first};
 use machine::{Counts, Refusal};
-use memory::{Core, Memory};
+use memory::Memory;
 use std::alloc::{AllocError, Global};
 
 // A trace so far: the processor that makes it, its text, and what its steps were.
@@ -109,18 +110,11 @@ pub fn trace(
 ) -> Result<String, AllocError>
     ensures { IfOk result (λ s. string_bytes s ≡ trace_text steps protect signals.now bytes.now) }
 {
-    let mut words = [0; 8192];
-    let mut processor = Processor::new(Core::new(&mut words));
-    match processor.load(first(bytes)) {
-        Ok(_) => {
-            let mut processor = processor.go(protect);
-            let text = steps_text(heap, &mut processor, steps, signals);
-            drop(processor.halt().into_memory());
-            text
-        }
-        Err(fault) => {
-            drop(processor.into_memory());
-            format!(in heap; "{}\n", fault_line(heap, fault)?)
-        }
+    let traced = with_running(first(bytes), protect, |processor| {
+        steps_text(heap, processor, steps, signals)
+    });
+    match traced {
+        Ok(text) => text,
+        Err(fault) => format!(in heap; "{}\n", fault_line(heap, fault)?),
     }
 }

@@ -33,10 +33,8 @@ impl Plan {
     fn held(&self, block: u8, portion: u8) -> bool
         ensures { result ≡ held_below self.now.portions block portion 8 }
     {
-        self.portions
-            .iter()
-            .enumerate()
-            .any(|(other, theirs)| other != block as usize && *theirs == portion)
+        self.portions.iter().enumerate().any(|(other, theirs)| other != block as usize
+            && *theirs == portion)
     }
 
     pub fn set(&mut self, block: u8, portion: u8) -> Result<(), PlanRefusal>

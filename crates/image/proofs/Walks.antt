@@ -6,7 +6,7 @@ use Rattle.image.specs.declared.Fault.{Fault}
 use Rattle.image.specs.declared.Record.{Record}
 use Rattle.image.specs.Format.{encode, encode_record, encode_records, fault, storing}
 use Rattle.image.specs.Law.{AllStorable, Complete, Flaw, Storable, Told, not_storable}
-use Rattle.image.specs.Reading.{and_then, counted, item_at, place_after, records_from, size, unless_end, verdict}
+use Rattle.image.specs.Reading.{and_then, counted, item_at, place_after, records_from, size, verdict}
 use Rattle.image.proofs.Items.{Octets, end_back, ended, faulty, read, read_back, size_pos, storable_anywhere}
 
 -- any bound that is large enough serves
@@ -74,29 +74,29 @@ Tells limit bs p (Err x) =
     (before : List Record) × (rest : List ℕ) × (drop p bs ≡ encode_records before ++ rest) × AllStorable limit before × Flaw limit (p + length (encode_records before)) rest x
 
 module _ (limit : ℕ) (bs : List ℕ) (o : Octets bs) where
-  flawed : (p : ℕ) (rest : List ℕ) (x : Fault) → drop p bs ≡ rest → Flaw limit p rest x → Tells limit bs p (Err x)
-  flawed p rest x e f = let z : p + 0 ≡ p = omega arith in ([], rest, e, tt, rw z f)
+  module _ (p : ℕ) where
+    flawed : (x : Fault) → from limit bs p ≡ Err x → Flaw limit p (drop p bs) x → Tells limit bs p (from limit bs p)
+    flawed x e f = let z : p + 0 ≡ p = omega arith in rw e ([], drop p bs, refl, tt, rw z f)
 
-  module _ (p : ℕ) (onwards : ℕ → Result (List Record) Fault) (told : (q : ℕ) → p < q → Tells limit bs q (onwards q)) where
     one_more : (r : Record) → item_at bs p ≡ Ok (Some r) → Storable limit r → (v : Result (List Record) Fault) → Tells limit bs (p + size r) v → Tells limit bs p (first r v)
     one_more r e s (Ok rs) t = (simp (read bs p o r e, t.0, append_assoc), (s, t.1))
     one_more r e s (Err x) t =
         let q : p + length (encode_record r ++ encode_records t.0) ≡ (p + size r) + length (encode_records t.0) = omega (arith, length-append (encode_record r) (encode_records t.0)) in
         (r ∷ t.0, t.1, simp (read bs p o r e, t.2, append_assoc), (s, t.3), rw q t.4)
 
-    stored : (r : Record) → item_at bs p ≡ Ok (Some r) → (s : Result (Unit {0}) Fault) → storing limit p r ≡ s → Tells limit bs p (and_then s (λ _. first r (onwards (p + size r))))
-    stored r e (Ok u) s = one_more r e (storable_anywhere limit p r s) _ (told (p + size r) (omega (arith, size_pos r)))
-    stored r e (Err x) s = flawed p _ x (read bs p o r e) (not_storable r _ x s)
+    module _ (further : (q : ℕ) → p < q → Tells limit bs q (from limit bs q)) where
+      stored : (r : Record) → item_at bs p ≡ Ok (Some r) → (s : Result (Unit {0}) Fault) → storing limit p r ≡ s → Tells limit bs p (from limit bs p)
+      stored r e (Ok u) s = rw (at_record limit bs p r e s) (one_more r e (storable_anywhere limit p r s) _ (further (p + size r) (omega (arith, size_pos r))))
+      stored r e (Err x) s = flawed x (at_refusal limit bs p r x e s) (rw (read bs p o r e) (not_storable r _ x s))
 
-    item : (i : Result (Option Record) Fault) → item_at bs p ≡ i → Tells limit bs p (and_then i (λ j. unless_end j (λ r. and_then (storing limit p r) (λ _. first r (onwards (p + size r))))))
-    item (Err x) e = flawed p _ x refl (faulty bs p limit x e _ refl)
-    item (Ok None) e = (ended bs p e, tt)
-    item (Ok (Some r)) e = stored r e (storing limit p r) refl
+      item : (i : Result (Option Record) Fault) → item_at bs p ≡ i → Tells limit bs p (from limit bs p)
+      item (Err x) e = flawed x (at_fault limit bs p x e) (faulty bs p limit x e _ refl)
+      item (Ok None) e = rw (at_end limit bs p e) (ended bs p e, tt)
+      item (Ok (Some r)) e = stored r e (storing limit p r) refl
 
-  tells : (f p : ℕ) → length bs < f + p → Tells limit bs p (records_from f limit bs p)
-  unfolding records_from
-  tells zero p h = flawed p _ _ refl (faulty bs p limit (fault CutShort p) (grind arith) _ refl)
-  tells (suc f) p h = item p (λ q. records_from f limit bs q) (λ q m. tells f q (omega arith)) (item_at bs p) refl
+  tells : (f p : ℕ) → length bs < f + p → Tells limit bs p (from limit bs p)
+  tells zero p h = let past : item_at bs p ≡ Err (fault CutShort p) = grind arith in flawed p _ (at_fault limit bs p _ past) (faulty bs p limit _ past _ refl)
+  tells (suc f) p h = item p (λ q m. tells f q (omega arith)) (item_at bs p) refl
 
   told : (v : Result (List Record) Fault) → Tells limit bs 0 v → Told limit bs (counted 0 v)
   told (Ok rs) t = record { records = rs; encoded = t.0; storable = t.1; count = omega arith }
@@ -106,10 +106,9 @@ module _ (limit : ℕ) (bs : List ℕ) (o : Octets bs) where
 
   -- an answer that is the verdict's is lawful
   lawful : (r : Result ℕ Fault) → r ≡ counted 0 (verdict limit bs) → Answered limit bs r
-  unfolding verdict
   lawful r a = record {
     answer = a;
-    told = rw a (told _ (tells (suc (length bs)) 0 (omega arith)));
+    told = rw (a, from_start limit bs) (told _ (tells (suc (length bs)) 0 (omega arith)));
     complete = λ rs e s. a ∙ ap (counted 0) (complete limit bs rs e s) ∙ ap Ok (omega arith);
   }
 
@@ -129,22 +128,21 @@ start limit ms bs p s o z = record { same = s; octets = o; few = omega arith; le
 
 -- the steps of the check, in the terms of the code
 module _ {limit : ℕ} {ms bs : List ℕ} {p n : ℕ} (now_at : Progress limit ms bs p n) where
+  exits : (r : Result ℕ Fault) → r ≡ counted n (from limit bs p) → Answered limit bs r
+  exits r e = lawful limit bs now_at.octets r (e ∙ sym now_at.left)
+
   pub accepts : (i : Option Record) → Ok i ≡ item_at ms p → i ≡ None → Answered limit bs (Ok n)
-  accepts i a e =
-      let here : item_at bs p ≡ Ok None = cc in
-      lawful limit bs now_at.octets (Ok n) (rw (now_at.left, at_end limit bs p here) (ap Ok (omega arith)))
+  accepts i a e = let here : item_at bs p ≡ Ok None = cc in exits (Ok n) (rw (at_end limit bs p here) (ap Ok (omega arith)))
 
   pub misreads : (x : Fault) → Err x ≡ item_at ms p → Answered limit bs (Err x)
-  misreads x a =
-      let here : item_at bs p ≡ Err x = cc in
-      lawful limit bs now_at.octets (Err x) (rw (now_at.left, at_fault limit bs p x here))
+  misreads x a = let here : item_at bs p ≡ Err x = cc in exits (Err x) (rw (at_fault limit bs p x here))
 
   module _ (i : Option Record) (r : Record) (a : Ok i ≡ item_at ms p) (e : i ≡ Some r) where
     here : item_at bs p ≡ Ok (Some r)
     here = cc
 
     pub refuses : (x : Fault) → Err x ≡ storing limit p r → Answered limit bs (Err x)
-    refuses x s = lawful limit bs now_at.octets (Err x) (rw (now_at.left, at_refusal limit bs p r x here (sym s)))
+    refuses x s = exits (Err x) (rw (at_refusal limit bs p r x here (sym s)))
 
     pub goes_on : (ns : List ℕ) (after : ℕ) → ns ≡ ms → after ≡ place_after p (Ok i) → Ok tt ≡ storing limit p r → Progress limit ns bs after (n + 1)
     goes_on ns after b f s =
@@ -160,12 +158,10 @@ module _ {limit : ℕ} {ms bs : List ℕ} {p n : ℕ} (now_at : Progress limit m
 pub onward : (limit : ℕ) (bs : List ℕ) (p : ℕ) (rest : List Record) (r : Record) → from limit bs p ≡ Ok rest → item_at bs p ≡ Ok (Some r)
     → (more : List Record) × (rest ≡ r ∷ more) × (from limit bs (p + size r) ≡ Ok more)
 onward limit bs p rest r e i =
-    by (storing limit p r) refl
+    by (storing limit p r) (from limit bs (p + size r)) refl refl
   where
-    split : (x : Result (List Record) Fault) → and_then x (λ rs. Ok (r ∷ rs)) ≡ Ok rest → (more : List Record) × (rest ≡ r ∷ more) × (x ≡ Ok more)
-    split (Ok more) f = (more, cc, refl)
-    split (Err x) f = absurd (let z : ◌≡◌ {A = ℕ} 0 1 = cc in omega arith)
-
-    by : (s : Result (Unit {0}) Fault) → storing limit p r ≡ s → (more : List Record) × (rest ≡ r ∷ more) × (from limit bs (p + size r) ≡ Ok more)
-    by (Ok u) s = split (from limit bs (p + size r)) (sym (at_record limit bs p r i s) ∙ e)
-    by (Err x) s = absurd (let f = sym (at_refusal limit bs p r x i s) ∙ e in let z : ◌≡◌ {A = ℕ} 0 1 = cc in omega arith)
+    by : (s : Result (Unit {0}) Fault) (v : Result (List Record) Fault) → storing limit p r ≡ s → from limit bs (p + size r) ≡ v
+        → (more : List Record) × (rest ≡ r ∷ more) × (from limit bs (p + size r) ≡ Ok more)
+    by (Ok u) (Ok more) s f = (more, (let g = at_record limit bs p r i s in let h = ap (first r) f in cc), f)
+    by (Ok u) (Err x) s f = absurd (let g = at_record limit bs p r i s in let h = ap (first r) f in cc)
+    by (Err x) v s f = absurd (let g = at_refusal limit bs p r x i s in cc)

@@ -1,6 +1,8 @@
 -- How the check of an image goes on from record to record.
 use Rattle.std.proofs.Common.{◌≡◌, ℕ, zero, suc, ◌+◌, ◌-◌, ◌<◌, ◌≤◌, List, [], ◌∷◌, ◌++◌, length, drop, Some, None, Ok, Err, Option, Result, sym, refl, ap, ◌∙◌, append_assoc, arith}
-use Rattle.std.proofs.lemmas.List.{drop-drop, drop_at, length-append}
+use Rattle.std.proofs.lemmas.List.{drop-drop, length-append}
+use Rattle.std.proofs.lemmas.List.Prefix.{front_rest}
+use Rattle.std.proofs.Math.Nat.{add-zero, add_assoc, zero-add}
 use Rattle.image.specs.declared.Cause.TheVariants.{CutShort}
 use Rattle.image.specs.declared.Fault.{Fault}
 use Rattle.image.specs.declared.Record.{Record}
@@ -52,7 +54,7 @@ whole_back : (limit : ℕ) (bs : List ℕ) (p : ℕ) (rs : List Record) → drop
 whole_back limit bs p [] e s = at_end limit bs p (end_back bs p e)
 whole_back limit bs p (r ∷ rs) e s =
     let b : drop p bs ≡ encode_record r ++ encode rs = e ∙ append_assoc (encode_record r) (encode_records rs) (255 ∷ []) in
-    let c : drop (p + size r) bs ≡ encode rs = sym (drop-drop (size r) p bs) ∙ ap (drop (size r)) b ∙ drop_at (encode_record r) (encode rs) (size r) refl in
+    let c : drop (p + size r) bs ≡ encode rs = sym (drop-drop (size r) p bs) ∙ front_rest (drop p bs) (encode_record r) (encode rs) b in
     rw (at_record limit bs p r (read_back bs p r (encode rs) b) (s.0 p), whole_back limit bs (p + size r) rs c s.1)
 
 -- the whole image is read from its first byte on
@@ -76,13 +78,12 @@ Tells limit bs p (Err x) =
 module _ (limit : ℕ) (bs : List ℕ) (o : Octets bs) where
   module _ (p : ℕ) where
     flawed : (x : Fault) → from limit bs p ≡ Err x → Flaw limit p (drop p bs) x → Tells limit bs p (from limit bs p)
-    flawed x e f = let z : p + 0 ≡ p = omega arith in rw e ([], drop p bs, refl, tt, rw z f)
+    flawed x e f = rw e ([], drop p bs, refl, tt, simp add-zero f)
 
     one_more : (r : Record) → item_at bs p ≡ Ok (Some r) → Storable limit r → (v : Result (List Record) Fault) → Tells limit bs (p + size r) v → Tells limit bs p (first r v)
     one_more r e s (Ok rs) t = (simp (read bs p o r e, t.0, append_assoc), (s, t.1))
     one_more r e s (Err x) t =
-        let q : p + length (encode_record r ++ encode_records t.0) ≡ (p + size r) + length (encode_records t.0) = omega (arith, length-append (encode_record r) (encode_records t.0)) in
-        (r ∷ t.0, t.1, simp (read bs p o r e, t.2, append_assoc), (s, t.3), rw q t.4)
+        (r ∷ t.0, t.1, simp (read bs p o r e, t.2, append_assoc), (s, t.3), simp length-append (simp add_assoc at t.4))
 
     module _ (further : (q : ℕ) → p < q → Tells limit bs q (from limit bs q)) where
       stored : (r : Record) → item_at bs p ≡ Ok (Some r) → (s : Result (Unit {0}) Fault) → storing limit p r ≡ s → Tells limit bs p (from limit bs p)
@@ -100,9 +101,7 @@ module _ (limit : ℕ) (bs : List ℕ) (o : Octets bs) where
 
   told : (v : Result (List Record) Fault) → Tells limit bs 0 v → Told limit bs (counted 0 v)
   told (Ok rs) t = record { records = rs; encoded = t.0; storable = t.1; count = omega arith }
-  told (Err x) t =
-      let q : 0 + length (encode_records t.0) ≡ length (encode_records t.0) = omega arith in
-      record { before = t.0; rest = t.1; split = t.2; storable = t.3; flaw = rw q at t.4 }
+  told (Err x) t = record { before = t.0; rest = t.1; split = t.2; storable = t.3; flaw = simp zero-add at t.4 }
 
   -- an answer that is the verdict's is lawful
   lawful : (r : Result ℕ Fault) → r ≡ counted 0 (verdict limit bs) → Answered limit bs r
@@ -113,8 +112,7 @@ module _ (limit : ℕ) (bs : List ℕ) (o : Octets bs) where
   }
 
 counted_first : (n : ℕ) (r : Record) (x : Result (List Record) Fault) → counted n (first r x) ≡ counted (n + 1) x
-counted_first n r (Ok rs) = ap Ok (omega arith)
-counted_first n r (Err x) = refl
+counted_first n r x = grind arith
 
 -- how far the check has come: n records and those from p on are the image's, and ms are the reader's bytes
 pub record Progress (limit : ℕ) (ms bs : List ℕ) (p n : ℕ) : Type 0 where

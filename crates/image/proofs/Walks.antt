@@ -1,50 +1,43 @@
 -- How the check of an image goes on from record to record.
 use Rattle.std.proofs.Common.{◌≡◌, ℕ, zero, suc, ◌+◌, ◌-◌, ◌<◌, ◌≤◌, List, [], ◌∷◌, ◌++◌, length, drop, Some, None, Ok, Err, Option, Result, sym, refl, ap, ◌∙◌, append_assoc, arith}
-use Rattle.std.proofs.lemmas.List.{length-append, append-nil}
+use Rattle.std.proofs.lemmas.List.{drop-drop, length-append}
+use Rattle.std.proofs.lemmas.List.Prefix.{front_rest}
+use Rattle.std.proofs.Math.Nat.{add-zero, add_assoc, zero-add}
 use Rattle.image.specs.declared.Cause.TheVariants.{CutShort}
 use Rattle.image.specs.declared.Fault.{Fault}
 use Rattle.image.specs.declared.Record.{Record}
 use Rattle.image.specs.Format.{encode, encode_record, encode_records, fault, storing}
-use Rattle.image.specs.Law.{Accepted, AllStorable, Complete, Flaw, Refused, Storable, Told, not_storable}
-use Rattle.image.specs.Reading.{and_then, counted, item_at, place_after, records_from, size, unless_end, verdict}
+use Rattle.image.specs.Law.{AllStorable, Complete, Flaw, Storable, Told, not_storable}
+use Rattle.image.specs.Reading.{and_then, counted, item_at, place_after, records_from, size, verdict}
 use Rattle.image.proofs.Items.{Octets, end_back, ended, faulty, read, read_back, size_pos, storable_anywhere}
-
--- past the end nothing is read
-past : (bs : List ℕ) (p : ℕ) → length bs ≤ p → item_at bs p ≡ Err (fault CutShort p)
-past bs p h = grind arith
-
-same_then : {X Y : Type 0} (x : Result X Fault) (k l : X → Result Y Fault) → ((y : X) → k y ≡ l y) → and_then x k ≡ and_then x l
-same_then (Ok y) k l h = h y
-same_then (Err x) k l h = refl
-
-same_unless : (i : Option Record) (k l : Record → Result (List Record) Fault) → ((r : Record) → k r ≡ l r) → unless_end i k ≡ unless_end i l
-same_unless None k l h = refl
-same_unless (Some r) k l h = h r
 
 -- any bound that is large enough serves
 enough : (f g limit : ℕ) (bs : List ℕ) (p : ℕ) → length bs < f + p → length bs < g + p → records_from f limit bs p ≡ records_from g limit bs p
 unfolding records_from
 enough zero zero limit bs p h k = refl
-enough zero (suc g) limit bs p h k = let q : length bs ≤ p = omega arith in rw (past bs p q)
-enough (suc f) zero limit bs p h k = let q : length bs ≤ p = omega arith in rw (past bs p q)
+enough zero (suc g) limit bs p h k = grind arith
+enough (suc f) zero limit bs p h k = grind arith
 enough (suc f) (suc g) limit bs p h k =
-    same_then (item_at bs p) _ _ (λ i. same_unless i _ _ (λ r. same_then (storing limit p r) _ _ (λ _.
-    ap (λ x. and_then x (λ rs. Ok (r ∷ rs))) (enough f g limit bs (p + size r) (omega (arith, size_pos r)) (omega (arith, size_pos r))))))
+    let next : (r : Record) → records_from f limit bs (p + size r) ≡ records_from g limit bs (p + size r)
+    = λ r. enough f g limit bs (p + size r) (omega (arith, size_pos r)) (omega (arith, size_pos r)) in
+    simp next
+
+-- a record before those that follow it
+abbrev first : Record → Result (List Record) Fault → Result (List Record) Fault
+first r x = and_then x (λ rs. Ok (r ∷ rs))
 
 -- the records from p on
 abbrev pub from : ℕ → List ℕ → ℕ → Result (List Record) Fault
 from limit bs p = records_from (suc (length bs - p)) limit bs p
 
 module _ (limit : ℕ) (bs : List ℕ) (p : ℕ) where
-  pub at_record : (r : Record) → item_at bs p ≡ Ok (Some r) → storing limit p r ≡ Ok tt
-      → from limit bs p ≡ and_then (from limit bs (p + size r)) (λ rs. Ok (r ∷ rs))
+  at_record : (r : Record) → item_at bs p ≡ Ok (Some r) → storing limit p r ≡ Ok tt → from limit bs p ≡ first r (from limit bs (p + size r))
   unfolding records_from
   at_record r e s =
-      let w : p + size r ≤ length bs = (read bs p r e).within in
-      let here : from limit bs p ≡ and_then (records_from (length bs - p) limit bs (p + size r)) (λ rs. Ok (r ∷ rs)) = rw (e, s) in
-      here ∙ ap (λ x. and_then x (λ rs. Ok (r ∷ rs))) (enough (length bs - p) (suc (length bs - (p + size r))) limit bs (p + size r) (omega (arith, size_pos r)) (omega (arith, size_pos r)))
+      let on = enough (length bs - p) (suc (length bs - (p + size r))) limit bs (p + size r) (omega (arith, size_pos r)) (omega (arith, size_pos r)) in
+      rw (e, s, on)
 
-  pub at_refusal : (r : Record) (x : Fault) → item_at bs p ≡ Ok (Some r) → storing limit p r ≡ Err x → from limit bs p ≡ Err x
+  at_refusal : (r : Record) (x : Fault) → item_at bs p ≡ Ok (Some r) → storing limit p r ≡ Err x → from limit bs p ≡ Err x
   unfolding records_from
   at_refusal r x e s = rw (e, s)
 
@@ -56,17 +49,13 @@ module _ (limit : ℕ) (bs : List ℕ) (p : ℕ) where
   unfolding records_from
   at_end e = rw e
 
--- the encoding of storable records, behind other bytes, is read as those records
-whole_back : (limit : ℕ) (pre : List ℕ) (rs : List Record) → AllStorable limit rs → from limit (pre ++ encode rs) (length pre) ≡ Ok rs
-whole_back limit pre [] s = at_end limit (pre ++ encode []) (length pre) (end_back pre)
-whole_back limit pre (r ∷ rs) s =
-    let bs = pre ++ encode (r ∷ rs) in
-    let b : bs ≡ pre ++ (encode_record r ++ encode rs) = ap (λ l. pre ++ l) (append_assoc (encode_record r) (encode_records rs) (255 ∷ [])) in
-    let c : bs ≡ (pre ++ encode_record r) ++ encode rs = b ∙ sym (append_assoc pre (encode_record r) (encode rs)) in
-    let e : item_at bs (length pre) ≡ Ok (Some r) = ap (λ l. item_at l (length pre)) b ∙ read_back pre (encode rs) r in
-    let l : length pre + size r ≡ length (pre ++ encode_record r) = sym (length-append pre (encode_record r)) in
-    let on : from limit bs (length pre + size r) ≡ Ok rs = ap (from limit bs) l ∙ ap (λ z. from limit z (length (pre ++ encode_record r))) c ∙ whole_back limit (pre ++ encode_record r) rs s.1 in
-    at_record limit bs (length pre) r e (s.0 (length pre)) ∙ ap (λ x. and_then x (λ qs. Ok (r ∷ qs))) on
+-- the encoding of storable records is read as those records
+whole_back : (limit : ℕ) (bs : List ℕ) (p : ℕ) (rs : List Record) → drop p bs ≡ encode rs → AllStorable limit rs → from limit bs p ≡ Ok rs
+whole_back limit bs p [] e s = at_end limit bs p (end_back bs p e)
+whole_back limit bs p (r ∷ rs) e s =
+    let b : drop p bs ≡ encode_record r ++ encode rs = e ∙ append_assoc (encode_record r) (encode_records rs) (255 ∷ []) in
+    let c : drop (p + size r) bs ≡ encode rs = sym (drop-drop (size r) p bs) ∙ front_rest (drop p bs) (encode_record r) (encode rs) b in
+    rw (at_record limit bs p r (read_back bs p r (encode rs) b) (s.0 p), whole_back limit bs (p + size r) rs c s.1)
 
 -- the whole image is read from its first byte on
 pub from_start : (limit : ℕ) (bs : List ℕ) → verdict limit bs ≡ from limit bs 0
@@ -74,137 +63,103 @@ unfolding verdict
 from_start limit bs = enough (suc (length bs)) (suc (length bs - 0)) limit bs 0 (omega arith) (omega arith)
 
 pub complete : (limit : ℕ) (bs : List ℕ) (rs : List Record) → bs ≡ encode rs → AllStorable limit rs → verdict limit bs ≡ Ok rs
-complete limit bs rs e s = from_start limit bs ∙ ap (λ l. from limit l 0) e ∙ whole_back limit [] rs s
+complete limit bs rs e s = from_start limit bs ∙ whole_back limit bs 0 rs e s
 
--- how far the check has come: n storable records take the first p bytes
-pub record Progress (limit : ℕ) (bs : List ℕ) (p n : ℕ) : Type 0 where
-  pub before : List Record
-  pub split : bs ≡ encode_records before ++ drop p bs
-  pub place : length (encode_records before) ≡ p
-  pub storable : AllStorable limit before
-  pub count : n ≡ length before
+-- what the contract of the check asks of an answer
+abbrev Answered : ℕ → List ℕ → Result ℕ Fault → Type 0
+Answered limit bs r = record { answer : r ≡ counted 0 (verdict limit bs); told : Told limit bs r; complete : Complete limit bs r }
+
+-- what the records from p on, or their fault, say of the bytes from there on
+abbrev Tells : ℕ → List ℕ → ℕ → Result (List Record) Fault → Type 0
+Tells limit bs p (Ok rs) = (drop p bs ≡ encode rs) × AllStorable limit rs
+Tells limit bs p (Err x) =
+    (before : List Record) × (rest : List ℕ) × (drop p bs ≡ encode_records before ++ rest) × AllStorable limit before × Flaw limit (p + length (encode_records before)) rest x
+
+module _ (limit : ℕ) (bs : List ℕ) (o : Octets bs) where
+  module _ (p : ℕ) where
+    flawed : (x : Fault) → from limit bs p ≡ Err x → Flaw limit p (drop p bs) x → Tells limit bs p (from limit bs p)
+    flawed x e f = rw e ([], drop p bs, refl, tt, simp add-zero f)
+
+    one_more : (r : Record) → item_at bs p ≡ Ok (Some r) → Storable limit r → (v : Result (List Record) Fault) → Tells limit bs (p + size r) v → Tells limit bs p (first r v)
+    one_more r e s (Ok rs) t = (simp (read bs p o r e, t.0, append_assoc), (s, t.1))
+    one_more r e s (Err x) t =
+        (r ∷ t.0, t.1, simp (read bs p o r e, t.2, append_assoc), (s, t.3), simp length-append (simp add_assoc at t.4))
+
+    module _ (further : (q : ℕ) → p < q → Tells limit bs q (from limit bs q)) where
+      stored : (r : Record) → item_at bs p ≡ Ok (Some r) → (s : Result (Unit {0}) Fault) → storing limit p r ≡ s → Tells limit bs p (from limit bs p)
+      stored r e (Ok u) s = rw (at_record limit bs p r e s) (one_more r e (storable_anywhere limit p r s) _ (further (p + size r) (omega (arith, size_pos r))))
+      stored r e (Err x) s = flawed x (at_refusal limit bs p r x e s) (rw (read bs p o r e) (not_storable r _ x s))
+
+      item : (i : Result (Option Record) Fault) → item_at bs p ≡ i → Tells limit bs p (from limit bs p)
+      item (Err x) e = flawed x (at_fault limit bs p x e) (faulty bs p limit x e _ refl)
+      item (Ok None) e = rw (at_end limit bs p e) (ended bs p e, tt)
+      item (Ok (Some r)) e = stored r e (storing limit p r) refl
+
+  tells : (f p : ℕ) → length bs < f + p → Tells limit bs p (from limit bs p)
+  tells zero p h = let past : item_at bs p ≡ Err (fault CutShort p) = grind arith in flawed p _ (at_fault limit bs p _ past) (faulty bs p limit _ past _ refl)
+  tells (suc f) p h = item p (λ q m. tells f q (omega arith)) (item_at bs p) refl
+
+  told : (v : Result (List Record) Fault) → Tells limit bs 0 v → Told limit bs (counted 0 v)
+  told (Ok rs) t = record { records = rs; encoded = t.0; storable = t.1; count = omega arith }
+  told (Err x) t = record { before = t.0; rest = t.1; split = t.2; storable = t.3; flaw = simp zero-add at t.4 }
+
+  -- an answer that is the verdict's is lawful
+  lawful : (r : Result ℕ Fault) → r ≡ counted 0 (verdict limit bs) → Answered limit bs r
+  lawful r a = record {
+    answer = a;
+    told = rw (a, from_start limit bs) (told _ (tells (suc (length bs)) 0 (omega arith)));
+    complete = λ rs e s. a ∙ ap (counted 0) (complete limit bs rs e s) ∙ ap Ok (omega arith);
+  }
+
+counted_first : (n : ℕ) (r : Record) (x : Result (List Record) Fault) → counted n (first r x) ≡ counted (n + 1) x
+counted_first n r x = grind arith
+
+-- how far the check has come: n records and those from p on are the image's, and ms are the reader's bytes
+pub record Progress (limit : ℕ) (ms bs : List ℕ) (p n : ℕ) : Type 0 where
+  pub same : ms ≡ bs
+  pub octets : Octets bs
   pub few : n ≤ p
   pub left : counted 0 (verdict limit bs) ≡ counted n (from limit bs p)
 
--- one more at the end of a list of records
-encode_push : (rs : List Record) (r : Record) → encode_records (rs ++ (r ∷ [])) ≡ encode_records rs ++ encode_record r
-encode_push [] r = append-nil (encode_record r)
-encode_push (q ∷ rs) r = ap (λ l. encode_record q ++ l) (encode_push rs r) ∙ sym (append_assoc (encode_record q) (encode_records rs) (encode_record r))
+pub start : (limit : ℕ) (ms bs : List ℕ) (p : ℕ) → ms ≡ bs → Octets bs → p ≡ 0 → Progress limit ms bs p 0
+start limit ms bs p s o z = record { same = s; octets = o; few = omega arith; left = rw z (ap (counted 0) (from_start limit bs)) }
 
-storable_push : (limit : ℕ) (rs : List Record) (r : Record) → AllStorable limit rs → Storable limit r → AllStorable limit (rs ++ (r ∷ []))
-storable_push limit [] r a s = (s, tt)
-storable_push limit (q ∷ rs) r a s = (a.0, storable_push limit rs r a.1 s)
+-- the steps of the check, in the terms of the code
+module _ {limit : ℕ} {ms bs : List ℕ} {p n : ℕ} (now_at : Progress limit ms bs p n) where
+  exits : (r : Result ℕ Fault) → r ≡ counted n (from limit bs p) → Answered limit bs r
+  exits r e = lawful limit bs now_at.octets r (e ∙ sym now_at.left)
 
-counted_push : (n : ℕ) (r : Record) (x : Result (List Record) Fault) → counted n (and_then x (λ rs. Ok (r ∷ rs))) ≡ counted (n + 1) x
-counted_push n r (Ok rs) = ap Ok (omega arith)
-counted_push n r (Err x) = refl
-
-module _ (limit : ℕ) (bs : List ℕ) where
-  pub start : Progress limit bs 0 0
-  start = record {
-    before = [];
-    split = refl;
-    place = refl;
-    storable = tt;
-    count = refl;
-    few = omega arith;
-    left = ap (counted 0) (from_start limit bs);
-  }
-
-  module _ (p n : ℕ) (now_at : Progress limit bs p n) where
-    -- a storable record takes the check one further
-    pub turn : (r : Record) → item_at bs p ≡ Ok (Some r) → Octets bs → storing limit p r ≡ Ok tt → Progress limit bs (p + size r) (n + 1)
-    turn r e o s =
-        let rs = now_at.before in
-        let d : drop p bs ≡ encode_record r ++ drop (p + size r) bs = (read bs p r e).encoded o in
-        record {
-          before = rs ++ (r ∷ []);
-          split = now_at.split ∙ ap (λ l. encode_records rs ++ l) d ∙ sym (append_assoc (encode_records rs) (encode_record r) (drop (p + size r) bs)) ∙ ap (λ l. l ++ drop (p + size r) bs) (sym (encode_push rs r));
-          place = ap length (encode_push rs r) ∙ length-append (encode_records rs) (encode_record r) ∙ ap (λ k. k + size r) now_at.place;
-          storable = storable_push limit rs r now_at.storable (storable_anywhere limit p r s);
-          count = omega (arith, now_at.count, length-append rs (r ∷ []));
-          few = omega (arith, now_at.few, size_pos r);
-          left = now_at.left ∙ ap (counted n) (at_record limit bs p r e s) ∙ counted_push n r (from limit bs (p + size r));
-        }
-
-    -- the end: the image is accepted
-    pub finish : item_at bs p ≡ Ok None → (Ok n ≡ counted 0 (verdict limit bs)) × Accepted limit bs n
-    finish e = (
-      sym (now_at.left ∙ ap (counted n) (at_end limit bs p e) ∙ ap Ok (omega arith)),
-      record {
-        records = now_at.before;
-        encoded = now_at.split ∙ ap (λ l. encode_records now_at.before ++ l) (ended bs p e).1;
-        storable = now_at.storable;
-        count = now_at.count;
-      },
-    )
-
-    refused : (x : Fault) → Flaw limit p (drop p bs) x → Refused limit bs x
-    refused x f = record {
-      before = now_at.before;
-      rest = drop p bs;
-      split = now_at.split;
-      storable = now_at.storable;
-      flaw = rw now_at.place f;
-    }
-
-    -- a fault in reading
-    pub unread : (x : Fault) → item_at bs p ≡ Err x → (Err x ≡ counted 0 (verdict limit bs)) × Refused limit bs x
-    unread x e = (sym (now_at.left ∙ ap (counted n) (at_fault limit bs p x e)), refused x (faulty bs p limit x e))
-
-    -- a record that cannot be stored
-    pub unstored : (r : Record) (x : Fault) → item_at bs p ≡ Ok (Some r) → Octets bs → storing limit p r ≡ Err x
-        → (Err x ≡ counted 0 (verdict limit bs)) × Refused limit bs x
-    unstored r x e o s = (
-      sym (now_at.left ∙ ap (counted n) (at_refusal limit bs p r x e s)),
-      refused x (rw ((read bs p r e).encoded o) (not_storable r (drop (p + size r) bs) x s)),
-    )
-
--- what an answer that is the verdict's says of the image
-pub record Answered (limit : ℕ) (bs : List ℕ) (r : Result ℕ Fault) : Type 0 where
-  pub answer : r ≡ counted 0 (verdict limit bs)
-  pub told : Told limit bs r
-  pub complete : Complete limit bs r
-
-answered : (limit : ℕ) (bs : List ℕ) (r : Result ℕ Fault) → r ≡ counted 0 (verdict limit bs) → Told limit bs r → Answered limit bs r
-answered limit bs r a t = record { answer = a; told = t; complete = λ rs e s. a ∙ ap (counted 0) (complete limit bs rs e s) ∙ ap Ok (omega arith) }
-
--- the same in the terms of the code: ms are the reader's bytes, and r is what `?` returns
-module _ (limit : ℕ) (ms bs : List ℕ) (p n : ℕ) (same : ms ≡ bs) (now_at : Progress limit bs p n) where
   pub accepts : (i : Option Record) → Ok i ≡ item_at ms p → i ≡ None → Answered limit bs (Ok n)
-  accepts i a e =
-      let f = finish limit bs p n now_at (ap (λ l. item_at l p) (sym same) ∙ sym a ∙ ap Ok e) in
-      answered limit bs (Ok n) f.0 f.1
+  accepts i a e = let here : item_at bs p ≡ Ok None = cc in exits (Ok n) (rw (at_end limit bs p here) (ap Ok (omega arith)))
 
-  pub misreads : (r : Result ℕ Fault) (x y : Fault) → r ≡ Err x → x ≡ y → Err y ≡ item_at ms p → Answered limit bs r
-  misreads r x y e f a =
-      let u = unread limit bs p n now_at y (ap (λ l. item_at l p) (sym same) ∙ sym a) in
-      rw (e, f) (answered limit bs (Err y) u.0 u.1)
+  pub misreads : (x : Fault) → Err x ≡ item_at ms p → Answered limit bs (Err x)
+  misreads x a = let here : item_at bs p ≡ Err x = cc in exits (Err x) (rw (at_fault limit bs p x here))
 
-  module _ (o : Octets bs) (i : Option Record) (q : Record) (a : Ok i ≡ item_at ms p) (e : i ≡ Some q) where
-    here : item_at bs p ≡ Ok (Some q)
-    here = ap (λ l. item_at l p) (sym same) ∙ sym a ∙ ap Ok e
+  module _ (i : Option Record) (r : Record) (a : Ok i ≡ item_at ms p) (e : i ≡ Some r) where
+    here : item_at bs p ≡ Ok (Some r)
+    here = cc
 
-    pub refuses : (r : Result ℕ Fault) (x y : Fault) → r ≡ Err x → x ≡ y → (place : ℕ) → place ≡ p → Err y ≡ storing limit place q → Answered limit bs r
-    refuses r x y f g place h s =
-        let u = unstored limit bs p n now_at q y here o (sym (s ∙ ap (λ k. storing limit k q) h)) in
-        rw (f, g) (answered limit bs (Err y) u.0 u.1)
+    pub refuses : (x : Fault) → Err x ≡ storing limit p r → Answered limit bs (Err x)
+    refuses x s = exits (Err x) (rw (at_refusal limit bs p r x here (sym s)))
 
-    pub goes_on : (after place : ℕ) → after ≡ place_after p (Ok i) → place ≡ p → Ok tt ≡ storing limit place q → Progress limit bs after (n + 1)
-    goes_on after place f h s =
-        let k : after ≡ p + size q = f ∙ ap (λ j. place_after p (Ok j)) e in
-        rw k (turn limit bs p n now_at q here o (sym (s ∙ ap (λ j. storing limit j q) h)))
+    pub goes_on : (ns : List ℕ) (after : ℕ) → ns ≡ ms → after ≡ place_after p (Ok i) → Ok tt ≡ storing limit p r → Progress limit ns bs after (n + 1)
+    goes_on ns after b f s =
+        let k : after ≡ p + size r = f ∙ ap (λ j. place_after p (Ok j)) e in
+        record {
+          same = b ∙ now_at.same;
+          octets = now_at.octets;
+          few = omega (arith, size_pos r);
+          left = rw k (now_at.left ∙ ap (counted n) (at_record limit bs p r here (sym s)) ∙ counted_first n r _);
+        }
 
 -- what is left of the records once one of them has been read
 pub onward : (limit : ℕ) (bs : List ℕ) (p : ℕ) (rest : List Record) (r : Record) → from limit bs p ≡ Ok rest → item_at bs p ≡ Ok (Some r)
     → (more : List Record) × (rest ≡ r ∷ more) × (from limit bs (p + size r) ≡ Ok more)
 onward limit bs p rest r e i =
-    by (storing limit p r) refl
+    by (storing limit p r) (from limit bs (p + size r)) refl refl
   where
-    split : (x : Result (List Record) Fault) → and_then x (λ rs. Ok (r ∷ rs)) ≡ Ok rest → (more : List Record) × (rest ≡ r ∷ more) × (x ≡ Ok more)
-    split (Ok more) f = (more, cc, refl)
-    split (Err x) f = absurd (let z : ◌≡◌ {A = ℕ} 0 1 = cc in omega arith)
-
-    by : (s : Result (Unit {0}) Fault) → storing limit p r ≡ s → (more : List Record) × (rest ≡ r ∷ more) × (from limit bs (p + size r) ≡ Ok more)
-    by (Ok u) s = split (from limit bs (p + size r)) (sym (at_record limit bs p r i s) ∙ e)
-    by (Err x) s = absurd (let f = sym (at_refusal limit bs p r x i s) ∙ e in let z : ◌≡◌ {A = ℕ} 0 1 = cc in omega arith)
+    by : (s : Result (Unit {0}) Fault) (v : Result (List Record) Fault) → storing limit p r ≡ s → from limit bs (p + size r) ≡ v
+        → (more : List Record) × (rest ≡ r ∷ more) × (from limit bs (p + size r) ≡ Ok more)
+    by (Ok u) (Ok more) s f = (more, (let g = at_record limit bs p r i s in let h = ap (first r) f in cc), f)
+    by (Ok u) (Err x) s f = absurd (let g = at_record limit bs p r i s in let h = ap (first r) f in cc)
+    by (Err x) v s f = absurd (let g = at_refusal limit bs p r x i s in cc)

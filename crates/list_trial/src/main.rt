@@ -42,3 +42,20 @@ fn main(rt: HostRuntime) -> io::Result<()> {
     let late = long(heap, &[2, 5, 0, 7], 16384, &[255])?;
     show(&rt, "the end behind 65536 bytes", late.as_slice())
 }
+
+#[cfg(test)]
+mod tests {
+    use image::Record;
+    use std::alloc::AllocError;
+
+    #[test]
+    fn a_record_has_its_line(rt: HostRuntime) -> Result<(), AllocError> {
+        let record = Record::Level {
+            number: 15,
+            state: 2,
+        };
+        let line = listing::record_line(rt.alloc(), record)?;
+        assert_eq!(rt; line.as_str(), "level 15 enabled");
+        Ok(())
+    }
+}

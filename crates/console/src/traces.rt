@@ -9,7 +9,7 @@ use crate::signals::Signal;
 use crate::start::with_running;
 use engine::{Processor, Running};
 use listing::{fault_line, first};
-use machine::{Counts, Refusal};
+use machine::{Counts, LONGEST_RUN, Refusal};
 use memory::Memory;
 use std::alloc::{AllocError, Global};
 
@@ -88,7 +88,7 @@ fn steps_text<M: Memory>(
 ) -> Result<String, AllocError>
     ensures { IfOk result (λ s. string_bytes s ≡ trace_of steps signals.now (seen M.words processor.old)) }
 {
-    if steps > 1_000_000 {
+    if steps > LONGEST_RUN {
         return format!(in heap; "refused {}\n", Refusal::RunTooLong.number());
     }
     let mut tracer = Tracer::new(heap, processor);

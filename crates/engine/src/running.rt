@@ -7,7 +7,7 @@ ghost use Rattle.engine.specs.View.{seen};
 
 use crate::processor::{Idle, Live, Processor, Running};
 use levels::{Event, LevelState};
-use machine::{Answer, Call, Counts, Refusal, Signalled};
+use machine::{Answer, Call, Counts, LONGEST_RUN, Refusal, Signalled};
 use memory::Memory;
 
 impl<K: Live, M: Memory> Processor<K, M> {
@@ -19,7 +19,7 @@ impl<K: Live, M: Memory> Processor<K, M> {
         ensures sum { IfOk result (λ n. total n ≡ steps) }
         ensures confined { (seen M.words self.old).cpu.switch ≡ true → Each Confined (run_trail steps (seen M.words self.old)) }
     {
-        if steps > 1_000_000 {
+        if steps > LONGEST_RUN {
             return Err(Refusal::RunTooLong);
         }
         let mut counts = Counts::default();

@@ -25,6 +25,9 @@ pub enum Signalled {
     Dropped,
 }
 
+/// The most steps that a run may have.
+pub const LONGEST_RUN: u32 = 1_000_000;
+
 /// How many steps of a run were of each kind.
 #[derive(Clone, Copy, PartialEq, Eq, Debug, Default)]
 pub struct Counts {

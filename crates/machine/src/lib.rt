@@ -11,7 +11,7 @@ mod sum;
 mod text;
 mod work;
 
-pub use call::{Answer, Call, Counts, Outcome, Signalled};
+pub use call::{Answer, Call, Counts, LONGEST_RUN, Outcome, Signalled};
 pub use instruction::{
     Condition, Instruction, Join, ReadFunction, Transfer, WriteFunction, addresses, decode,
 };

@@ -32,8 +32,7 @@ module _ (limit : ℕ) (bs : List ℕ) (p : ℕ) where
   at_record : (r : Record) → item_at bs p ≡ Ok (Some r) → storing limit p r ≡ Ok tt → from limit bs p ≡ first r (from limit bs (p + size r))
   unfolding records_from
   at_record r e s =
-      let on = enough (length bs - p) (suc (length bs - (p + size r))) limit bs (p + size r) (omega (arith, size_pos r)) (omega (arith, size_pos r)) in
-      rw (e, s, on)
+      rw (e, s, enough (length bs - p) (suc (length bs - (p + size r))) limit bs (p + size r) (omega (arith, size_pos r)) (omega (arith, size_pos r)))
 
   at_refusal : (r : Record) (x : Fault) → item_at bs p ≡ Ok (Some r) → storing limit p r ≡ Err x → from limit bs p ≡ Err x
   unfolding records_from
@@ -146,7 +145,7 @@ module _ {limit : ℕ} {ms bs : List ℕ} {p n : ℕ} (now_at : Progress limit m
 
     pub goes_on : (ns : List ℕ) (after : ℕ) → ns ≡ ms → after ≡ place_after p (Ok i) → Ok tt ≡ storing limit p r → Progress limit ns bs after (n + 1)
     goes_on ns after b f s =
-        let k : after ≡ p + size r = f ∙ ap (λ j. place_after p (Ok j)) e in
+        let k : after ≡ p + size r = grind arith in
         record {
           same = b ∙ now_at.same;
           octets = now_at.octets;
@@ -162,6 +161,6 @@ onward limit bs p rest r e i =
   where
     by : (s : Result (Unit {0}) Fault) (v : Result (List Record) Fault) → storing limit p r ≡ s → from limit bs (p + size r) ≡ v
         → (more : List Record) × (rest ≡ r ∷ more) × (from limit bs (p + size r) ≡ Ok more)
-    by (Ok u) (Ok more) s f = (more, (let g = at_record limit bs p r i s in let h = ap (first r) f in cc), f)
-    by (Ok u) (Err x) s f = absurd (let g = at_record limit bs p r i s in let h = ap (first r) f in cc)
-    by (Err x) v s f = absurd (let g = at_refusal limit bs p r x i s in cc)
+    by (Ok u) (Ok more) s f = (more, cc (at_record limit bs p r i s, ap (first r) f), f)
+    by (Ok u) (Err x) s f = absurd (cc (at_record limit bs p r i s, ap (first r) f))
+    by (Err x) v s f = absurd (cc (at_refusal limit bs p r x i s))

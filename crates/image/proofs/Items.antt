@@ -50,7 +50,11 @@ module _ (bs : List ℕ) (p : ℕ) where
   faulty limit x e (k ∷ rest) f =
       by rest (grind (arith, nat_tests, left _ f, reach _ f 0))
     where
-      by : (l : List ℕ) → ((kind_size k ≡ 0) × (x ≡ fault UnknownKind p)) ⊎ (((k ≡ 255) × (0 < length l) × (x ≡ fault AfterEnd (p + 1))) ⊎ ((1 + length l < kind_size k) × (x ≡ fault CutShort p))) → Flaw limit p (k ∷ l) x
+      by : (l : List ℕ)
+          → ((kind_size k ≡ 0) × (x ≡ fault UnknownKind p))
+          ⊎ (((k ≡ 255) × (0 < length l) × (x ≡ fault AfterEnd (p + 1)))
+          ⊎ ((1 + length l < kind_size k) × (x ≡ fault CutShort p)))
+          → Flaw limit p (k ∷ l) x
       by l (inl u) = rw u.1 (unknown_kind k l u.0)
       by [] (inr (inl u)) = absurd (omega arith)
       by (b ∷ l) (inr (inl u)) = rw (u.0, u.2) (after_end b l)

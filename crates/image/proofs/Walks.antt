@@ -18,9 +18,7 @@ enough zero zero limit bs p h k = refl
 enough zero (suc g) limit bs p h k = grind arith
 enough (suc f) zero limit bs p h k = grind arith
 enough (suc f) (suc g) limit bs p h k =
-    let next : (r : Record) → records_from f limit bs (p + size r) ≡ records_from g limit bs (p + size r)
-    = λ r. enough f g limit bs (p + size r) (omega (arith, size_pos r)) (omega (arith, size_pos r)) in
-    simp next
+    simp (λ (r : Record). enough f g limit bs (p + size r) (omega (arith, size_pos r)) (omega (arith, size_pos r)))
 
 -- a record before those that follow it
 abbrev first : Record → Result (List Record) Fault → Result (List Record) Fault
@@ -34,8 +32,7 @@ module _ (limit : ℕ) (bs : List ℕ) (p : ℕ) where
   at_record : (r : Record) → item_at bs p ≡ Ok (Some r) → storing limit p r ≡ Ok tt → from limit bs p ≡ first r (from limit bs (p + size r))
   unfolding records_from
   at_record r e s =
-      let on = enough (length bs - p) (suc (length bs - (p + size r))) limit bs (p + size r) (omega (arith, size_pos r)) (omega (arith, size_pos r)) in
-      rw (e, s, on)
+      rw (e, s, enough (length bs - p) (suc (length bs - (p + size r))) limit bs (p + size r) (omega (arith, size_pos r)) (omega (arith, size_pos r)))
 
   at_refusal : (r : Record) (x : Fault) → item_at bs p ≡ Ok (Some r) → storing limit p r ≡ Err x → from limit bs p ≡ Err x
   unfolding records_from
@@ -77,14 +74,17 @@ Tells limit bs p (Err x) =
 
 module _ (limit : ℕ) (bs : List ℕ) (o : Octets bs) where
   module _ (p : ℕ) where
+    -- a fault at p
     flawed : (x : Fault) → from limit bs p ≡ Err x → Flaw limit p (drop p bs) x → Tells limit bs p (from limit bs p)
     flawed x e f = rw e ([], drop p bs, refl, tt, simp add-zero f)
 
+    -- a storable record at p, before the others
     one_more : (r : Record) → item_at bs p ≡ Ok (Some r) → Storable limit r → (v : Result (List Record) Fault) → Tells limit bs (p + size r) v → Tells limit bs p (first r v)
     one_more r e s (Ok rs) t = (simp (read bs p o r e, t.0, append_assoc), (s, t.1))
     one_more r e s (Err x) t =
         (r ∷ t.0, t.1, simp (read bs p o r e, t.2, append_assoc), (s, t.3), simp length-append (simp add_assoc at t.4))
 
+    -- whatever stands at p, if the same is known further on
     module _ (further : (q : ℕ) → p < q → Tells limit bs q (from limit bs q)) where
       stored : (r : Record) → item_at bs p ≡ Ok (Some r) → (s : Result (Unit {0}) Fault) → storing limit p r ≡ s → Tells limit bs p (from limit bs p)
       stored r e (Ok u) s = rw (at_record limit bs p r e s) (one_more r e (storable_anywhere limit p r s) _ (further (p + size r) (omega (arith, size_pos r))))
@@ -95,6 +95,7 @@ module _ (limit : ℕ) (bs : List ℕ) (o : Octets bs) where
       item (Ok None) e = rw (at_end limit bs p e) (ended bs p e, tt)
       item (Ok (Some r)) e = stored r e (storing limit p r) refl
 
+  -- at each place; f only bounds the recursion
   tells : (f p : ℕ) → length bs < f + p → Tells limit bs p (from limit bs p)
   tells zero p h = let past : item_at bs p ≡ Err (fault CutShort p) = grind arith in flawed p _ (at_fault limit bs p _ past) (faulty bs p limit _ past _ refl)
   tells (suc f) p h = item p (λ q m. tells f q (omega arith)) (item_at bs p) refl
@@ -144,7 +145,7 @@ module _ {limit : ℕ} {ms bs : List ℕ} {p n : ℕ} (now_at : Progress limit m
 
     pub goes_on : (ns : List ℕ) (after : ℕ) → ns ≡ ms → after ≡ place_after p (Ok i) → Ok tt ≡ storing limit p r → Progress limit ns bs after (n + 1)
     goes_on ns after b f s =
-        let k : after ≡ p + size r = f ∙ ap (λ j. place_after p (Ok j)) e in
+        let k : after ≡ p + size r = grind arith in
         record {
           same = b ∙ now_at.same;
           octets = now_at.octets;
@@ -160,6 +161,6 @@ onward limit bs p rest r e i =
   where
     by : (s : Result (Unit {0}) Fault) (v : Result (List Record) Fault) → storing limit p r ≡ s → from limit bs (p + size r) ≡ v
         → (more : List Record) × (rest ≡ r ∷ more) × (from limit bs (p + size r) ≡ Ok more)
-    by (Ok u) (Ok more) s f = (more, (let g = at_record limit bs p r i s in let h = ap (first r) f in cc), f)
-    by (Ok u) (Err x) s f = absurd (let g = at_record limit bs p r i s in let h = ap (first r) f in cc)
-    by (Err x) v s f = absurd (let g = at_refusal limit bs p r x i s in cc)
+    by (Ok u) (Ok more) s f = (more, cc (at_record limit bs p r i s, ap (first r) f), f)
+    by (Ok u) (Err x) s f = absurd (cc (at_record limit bs p r i s, ap (first r) f))
+    by (Err x) v s f = absurd (cc (at_refusal limit bs p r x i s))

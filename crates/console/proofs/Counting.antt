@@ -12,7 +12,5 @@ pub counted_run : (n : ℕ) (m : Machine) (x : Result Counts Refusal) (c : Count
 unfolding counts_after
 counted_run n m x c h answer is =
     let ok : run_refusal n ≡ Ok tt = cond-false _ _ _ (le-ltb 1000000 n h) in
-    inside c (counts_of (run_trail n m)) (sym is ∙ answer ∙ ap (λ y. or_refusal y (counts_of (run_trail n m))) ok)
-  where
-    inside : (x y : Counts) → ◌≡◌ {A = Result Counts Refusal} (Ok x) (Ok y) → x ≡ y
-    inside x y p = cc
+    let same : ◌≡◌ {A = Result Counts Refusal} (Ok c) (Ok (counts_of (run_trail n m))) = sym is ∙ answer ∙ ap (λ y. or_refusal y (counts_of (run_trail n m))) ok in
+    cc

@@ -10,12 +10,6 @@ use Rattle.engine.specs.Loads.{load_after, loaded}
 use Rattle.listing.specs.Listing.{blank}
 use Rattle.listing.proofs.Reports.{block}
 
--- the records of an accepted image, and the machine with them
-pub record Loaded (bs : List ℕ) (m : Machine) : Type 0 where
-  pub items : List Record
-  pub says : verdict 8192 bs ≡ Ok items
-  pub holds : m ≡ loaded items blank
-
 module _ (bs ws : List ℕ) (s : Cpu) (zero : ws ≡ replicate 8192 0) (new : s ≡ initial) where
   limited : length (front ws) ≡ 8192
   limited = ap length (block 8192 ws zero refl) ∙ length-replicate {A = ℕ} 8192 0
@@ -24,16 +18,11 @@ module _ (bs ws : List ℕ) (s : Cpu) (zero : ws ≡ replicate 8192 0) (new : s 
   unfolding blank
   starts = λ i. record { cpu = new i; words = block 8192 ws zero refl i }
 
+  -- the records of an accepted image, and the machine with them
   pub accepted : (n : ℕ) (m : Machine) → Ok n ≡ counted 0 (verdict (length (front ws)) bs)
-      → m ≡ load_after (verdict (length (front ws)) bs) (record { cpu = s; words = front ws }) → Loaded bs m
+      → m ≡ load_after (verdict (length (front ws)) bs) (record { cpu = s; words = front ws }) → (rs : List Record) × (verdict 8192 bs ≡ Ok rs) × (m ≡ loaded rs blank)
   accepted n m answer after = by (verdict 8192 bs) refl
     where
-      by : (v : Result (List Record) Fault) → verdict 8192 bs ≡ v → Loaded bs m
-      by (Ok rs) e =
-          let v : verdict (length (front ws)) bs ≡ Ok rs = ap (λ k. verdict k bs) limited ∙ e in
-          record {
-            items = rs;
-            says = e;
-            holds = after ∙ ap (λ x. load_after x (record { cpu = s; words = front ws })) v ∙ ap (loaded rs) starts;
-          }
+      by : (v : Result (List Record) Fault) → verdict 8192 bs ≡ v → (rs : List Record) × (verdict 8192 bs ≡ Ok rs) × (m ≡ loaded rs blank)
+      by (Ok rs) e = (rs, e, after ∙ (λ i. load_after (verdict (limited i) bs) (starts i)) ∙ ap (λ v. load_after v blank) e)
       by (Err x) e = absurd (let f = answer ∙ ap (λ k. counted 0 (verdict k bs)) limited ∙ ap (counted 0) e in let z : ◌≡◌ {A = ℕ} 0 1 = cc in omega arith)

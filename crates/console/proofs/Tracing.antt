@@ -1,6 +1,5 @@
 -- How a trace goes on, line by line.
-use Rattle.std.proofs.Common.{◌≡◌, ℕ, suc, ◌+◌, ◌-◌, ◌<◌, ◌≤◌, Bool, true, false, cond, eqb, List, [], ◌∷◌, length, get_or, drop, sym, refl, ap, ◌∙◌, arith}
-use Rattle.std.proofs.lemmas.List.{at_drop_all, at_drop_more}
+use Rattle.std.proofs.Common.{◌≡◌, ℕ, suc, ◌+◌, ◌-◌, ◌<◌, ◌≤◌, Bool, true, false, cond, eqb, List, [], ◌∷◌, sym, refl, ap, ◌∙◌, arith}
 use Rattle.std.proofs.lemmas.Bool.{cond-false, le-ltb}
 use Rattle.machine.specs.Calls.{total}
 use Rattle.machine.specs.State.{Machine}
@@ -8,14 +7,6 @@ use Rattle.machine.specs.Step.{step}
 use Rattle.machine.proofs.Tallies.{total_tallied}
 use Rattle.console.specs.declared.signals.Signal.{Signal}
 use Rattle.console.specs.Traces.{Traced, begun, ended, signal_at, signals_at, step_at, trace_of, traced}
-
--- one more of the signals
-pub signals_more : (ss : List Signal) (d : Signal) (i n : ℕ) (start x y : Traced) → i < length ss → signals_at n ss start ≡ signals_at n (drop i ss) x
-    → y ≡ cond (eqb (get_or ss i d).step n) (signal_at (get_or ss i d).level x) x → signals_at n ss start ≡ signals_at n (drop (i + 1) ss) y
-signals_more ss d i n start x y h inv e = inv ∙ at_drop_more (λ l. signals_at n l x) ss i d h ∙ ap (signals_at n (drop (i + 1) ss)) (sym e)
-
-pub signals_made : (ss : List Signal) (i n : ℕ) (start x : Traced) → length ss ≤ i → signals_at n ss start ≡ signals_at n (drop i ss) x → x ≡ signals_at n ss start
-signals_made ss i n start x h inv = sym (inv ∙ at_drop_all (λ l. signals_at n l x) ss i h)
 
 -- signals are no steps
 pub signals_count : (n : ℕ) (ss : List Signal) (x : Traced) → (signals_at n ss x).counts ≡ x.counts
@@ -30,11 +21,6 @@ signals_count n (s ∷ ss) x = signals_count n ss (cond (eqb s.step n) (signal_a
 pub record Half (n i : ℕ) (ss : List Signal) (start x : Traced) : Type 0 where
   pub goes : traced n 0 ss start ≡ traced (n - i) i ss x
   pub sum : total x.counts ≡ i
-
-pub half_begin : (n : ℕ) (ss : List Signal) (x : Traced) (m : Machine) → x ≡ begun m → Half n 0 ss (begun m) x
-half_begin n ss x m e =
-    let z : n ≡ n - 0 = omega arith in
-    record { goes = ap (λ k. traced k 0 ss (begun m)) z ∙ ap (traced (n - 0) 0 ss) (sym e); sum = ap (λ y. total y.counts) e }
 
 pub half_counts : (n i : ℕ) (ss : List Signal) (start x y : Traced) → Half n i ss start x → y ≡ signals_at i ss x → total y.counts ≡ i
 half_counts n i ss start x y h e = ap total (ap (λ z. z.counts) e ∙ signals_count i ss x) ∙ h.sum

@@ -1,11 +1,8 @@
 use Rattle.std.proofs.Common.{◌∙◌, arith}
 use Rattle.std.proofs.lemmas.Result.{IfOk-weaker}
 use Rattle.console.specs.Traces.{at}
-use Rattle.console.proofs.Tracing.{half_begin, half_counts, half_more, whole}
+use Rattle.console.proofs.Tracing.{half_counts, half_more, whole}
 use Rattle.console.proofs.traces.steps_text.Goals as goal
-
-pub loop-number-init : goal.loop-number-init
-loop-number-init g c = half_begin c.args.steps c.args.signals.now _ _ c.new-tracer.ensures
 
 pub step-requires : goal.step-requires
 step-requires g c =

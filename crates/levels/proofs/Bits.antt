@@ -20,10 +20,6 @@ one_below false = omega arith
 pushed_sum : (p : Property) (w : ℕ) (l : Level) → w < 32768 → pushed p w l ≡ w * 2 + one (has p l)
 pushed_sum p w l h = ap (λ x. bit_or x (one (has p l))) (mod-eq_of_lt (omega arith)) ∙ or_shifted w 1 (one (has p l)) (one_below (has p l))
 
-bits_suc : (n k : ℕ) (p : Property) (ls : List Level) → bits_of (suc n) k p ls ≡ one (has p (level_at ls k)) * 2 ^ (15 - k) + bits_of n (suc k) p ls
-unfolding bits_of
-bits_suc n k p ls = refl
-
 -- a word shifted, and one bit more
 spread : (w b x y : ℕ) → y ≡ x * 2 → (w * 2 + b) * x ≡ w * y + b * x
 spread w b x y e = grind arith

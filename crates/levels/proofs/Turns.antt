@@ -1,7 +1,6 @@
 -- Going through the levels one by one.
-use Rattle.std.proofs.Common.{◌≡◌, ℕ, zero, suc, ◌+◌, ◌-◌, ◌<◌, Bool, true, false, cond, List, [], ◌∷◌, length, drop, set, None, Some, Option, sym, refl, ap, ◌∙◌, arith, drop-cons}
-use Rattle.std.specs.List.{list_any, position, position_from}
-use Rattle.std.proofs.lemmas.Bool.{or_parts}
+use Rattle.std.proofs.Common.{◌≡◌, ℕ, zero, suc, ◌+◌, ◌-◌, ◌<◌, Bool, true, false, cond, List, length, drop, set, None, Some, Option, sym, refl, ap, ◌∙◌, arith, drop-cons}
+use Rattle.std.specs.List.{position, position_from}
 use Rattle.std.proofs.lemmas.List.{drop_all}
 use Rattle.std.proofs.lemmas.Iterator.Adapters.{position_from-zero}
 use Rattle.levels.specs.declared.level.LevelControl.{LevelControl}
@@ -9,7 +8,7 @@ use Rattle.levels.specs.declared.level.Event.TheVariants.{Exit}
 use Rattle.levels.specs.declared.level.Level.{Level}
 use Rattle.levels.specs.declared.level.LevelState.{LevelState}
 use Rattle.levels.specs.declared.level.LevelState.TheVariants.{Disarmed, Armed, Waiting, Active}
-use Rattle.levels.specs.declared.level.Property.TheVariants.{Active as ActiveProperty, Waiting as WaitingProperty}
+use Rattle.levels.specs.declared.level.Property.TheVariants.{Active as ActiveProperty}
 use Rattle.levels.specs.Levels.{Quiet, choose, control_each, controlled, has, inhibited, is_active, is_waiting, level_at, lowest, preset, released, sighted, sighted_by, told}
 use Rattle.levels.specs.Bits.{bit}
 
@@ -48,12 +47,6 @@ pub quiet_lowest : (n k : ℕ) (ii ei : Bool) (ls : List Level) → Quiet ls →
 unfolding lowest
 quiet_lowest zero k ii ei ls q = refl
 quiet_lowest (suc n) k ii ei ls q = passes (inhibited ii ei k) (level_at ls k).state (level_at ls k).enabled k (lowest n (suc k) ii ei ls) (q k) (quiet_lowest n (suc k) ii ei ls q)
-
--- where none is found waiting, none waits
-pub quiet_from_none : (ls : List Level) → list_any (has WaitingProperty) ls ≡ false → Quiet ls
-quiet_from_none [] e k = refl
-quiet_from_none (l ∷ ls) e zero = (or_parts (has WaitingProperty l) (list_any (has WaitingProperty) ls) e).0
-quiet_from_none (l ∷ ls) e (suc k) = quiet_from_none ls (or_parts (has WaitingProperty l) (list_any (has WaitingProperty) ls) e).1 k
 
 -- the records after the level that was found, if any, has taken the exit event
 abbrev given : List Level → Option ℕ → List Level

@@ -6,6 +6,12 @@ use std::alloc::{AllocError, Global};
 // The byte behind the last record.
 const END: u8 = 255;
 
+// A register of a kind, by its number.
+fn put_register(bytes: &mut Vec<u8>, kind: u8, number: u8, word: u16) -> Result<(), AllocError> {
+    let [high, low] = word.to_be_bytes();
+    bytes.extend_from_slice(&[kind, number, high, low])
+}
+
 // A record: its kind, and what it holds, of each word the high byte first.
 fn put_record(bytes: &mut Vec<u8>, record: Record) -> Result<(), AllocError> {
     match record {
@@ -14,14 +20,8 @@ fn put_record(bytes: &mut Vec<u8>, record: Record) -> Result<(), AllocError> {
             let [high, low] = word.to_be_bytes();
             bytes.extend_from_slice(&[1, page, place, high, low])
         }
-        Record::Protection { number, word } => {
-            let [high, low] = word.to_be_bytes();
-            bytes.extend_from_slice(&[2, number, high, low])
-        }
-        Record::Register { number, word } => {
-            let [high, low] = word.to_be_bytes();
-            bytes.extend_from_slice(&[3, number, high, low])
-        }
+        Record::Protection { number, word } => put_register(bytes, 2, number, word),
+        Record::Register { number, word } => put_register(bytes, 3, number, word),
         Record::Level { number, state } => bytes.extend_from_slice(&[4, number, state]),
     }
 }

@@ -1,13 +1,11 @@
 -- Runs, step by step.
-use Rattle.std.proofs.Common.{◌≡◌, ℕ, suc, ◌+◌, ◌-◌, ◌<◌, ◌≤◌, true, List, length, get_or, drop, replicate, Ok, Result, sym, ap, ◌∙◌, add-zero, add_assoc, arith}
-use Rattle.std.proofs.lemmas.List.{at_drop_all, at_drop_more}
+use Rattle.std.proofs.Common.{◌≡◌, ℕ, suc, ◌+◌, ◌-◌, ◌<◌, ◌≤◌, true, List, replicate, Ok, Result, sym, ap, ◌∙◌, add-zero, add_assoc, arith}
 use Rattle.std.proofs.lemmas.Bool.{cond-false, le-ltb}
-use Rattle.machine.specs.declared.call.Call.{Call}
 use Rattle.machine.specs.declared.call.Call.TheVariants.{Run}
 use Rattle.machine.specs.declared.call.Counts.{Counts}
 use Rattle.machine.specs.declared.call.Outcome.{Outcome}
 use Rattle.machine.specs.declared.refusal.Refusal.{Refusal}
-use Rattle.machine.specs.Calls.{after_call, after_calls, counted, counts_of, end, if_ok, no_counts, or_refusal, plus, run_answer, run_refusal, run_trail, tallied, tick, total, trail}
+use Rattle.machine.specs.Calls.{after_call, counted, counts_of, end, if_ok, no_counts, or_refusal, plus, run_answer, run_refusal, run_trail, tallied, tick, total, trail}
 use Rattle.machine.specs.State.{Machine}
 use Rattle.machine.specs.Step.{Moment, step}
 use Rattle.machine.proofs.Tallies.{total_tallied}
@@ -35,34 +33,11 @@ plus_none x = λ i. record {
   idles = add-zero x.idles i;
 }
 
-none_plus : (x : Counts) → x ≡ plus no_counts x
-none_plus x = λ i. record {
-  done = zero_plus x.done i;
-  not_carried = zero_plus x.not_carried i;
-  violations = zero_plus x.violations i;
-  stalls = zero_plus x.stalls i;
-  entries = zero_plus x.entries i;
-  idles = zero_plus x.idles i;
-}
-  where
-    zero_plus : (n : ℕ) → n ≡ 0 + n
-    zero_plus n = omega arith
-
 -- i of the n steps have been made, and c counts them
 pub record HalfRun (n i : ℕ) (start m : Machine) (c : Counts) : Type 0 where
   pub ends : end start (replicate n tick) ≡ end m (replicate (n - i) tick)
   pub counts : counts_of (trail start (replicate n tick)) ≡ plus c (counts_of (trail m (replicate (n - i) tick)))
   pub sum : total c ≡ i
-
-pub begin : (n : ℕ) (m : Machine) (c : Counts) → c ≡ no_counts → HalfRun n 0 m m c
-begin n m c none =
-    let z : n ≡ n - 0 = omega arith in
-    record {
-      ends = ap (λ k. end m (replicate k tick)) z;
-      counts = none_plus (counts_of (trail m (replicate n tick))) ∙ ap (λ k. plus no_counts (counts_of (trail m (replicate k tick)))) z
-          ∙ ap (λ x. plus x (counts_of (trail m (replicate (n - 0) tick)))) (sym none);
-      sum = ap total none;
-    }
 
 pub more : (n i : ℕ) (start m t : Machine) (c d : Counts) (o : Outcome) → i < n → HalfRun n i start m c → o ≡ (step m).outcome → t ≡ (step m).after → d ≡ tallied o c → HalfRun n (i + 1) start t d
 more n i start m t c d o h r eo et ed =
@@ -100,11 +75,3 @@ ran n i start m c h l r =
       after = sym (r.ends ∙ ap (λ j. end m (replicate j tick)) k) ∙ ap (λ x. end start (if_ok x (replicate n tick))) (sym ok);
       confined = confines n start;
     }
-
--- one call of a list
-pub performs : (cs : List Call) (d : Call) (i : ℕ) (start m n : Machine) → i < length cs → after_calls cs start ≡ after_calls (drop i cs) m → n ≡ after_call (get_or cs i d) m
-    → after_calls cs start ≡ after_calls (drop (i + 1) cs) n
-performs cs d i start m n h inv e = inv ∙ at_drop_more (λ l. after_calls l m) cs i d h ∙ ap (after_calls (drop (i + 1) cs)) (sym e)
-
-pub performed : (cs : List Call) (i : ℕ) (start m : Machine) → length cs ≤ i → after_calls cs start ≡ after_calls (drop i cs) m → m ≡ after_calls cs start
-performed cs i start m h inv = sym (inv ∙ at_drop_all (λ l. after_calls l m) cs i h)

@@ -1,29 +1,13 @@
 -- The parts of a step, in the terms of the code.
-use Rattle.std.proofs.Common.{◌≡◌, ℕ, Bool, true, not, ◌&&◌, ◌⊎◌, List, Some, None, Option, sym, refl, ap, ◌∙◌, inl, inr}
+use Rattle.std.proofs.Common.{◌≡◌, ℕ, true, ◌⊎◌, Some, None, Option, sym, refl, ap, ◌∙◌, inl, inr}
 use Rattle.machine.specs.declared.call.Outcome.{Outcome}
 use Rattle.machine.specs.declared.call.Outcome.TheVariants.{Entered, Idle}
-use Rattle.machine.specs.declared.instruction.Instruction.{Instruction}
 use Rattle.machine.specs.declared.state.Mark.{Mark}
 use Rattle.machine.specs.declared.state.Mark.TheVariants.{Unset, Wait, Exit}
-use Rattle.machine.specs.declared.state.Violation.{Violation}
-use Rattle.machine.specs.Decode.{address, decoded, relative}
-use Rattle.machine.specs.State.{Cpu, Machine}
-use Rattle.machine.specs.Step.{Moment, act, at_fetch, by_entry, by_fetch, by_judgement, by_mark, class, due, enter, exits, fetch_cpu, fetched, instruction, judge, step}
-use Rattle.machine.specs.Words.{read}
+use Rattle.machine.specs.State.{Machine}
+use Rattle.machine.specs.Step.{Moment, at_fetch, by_entry, by_mark, due, enter, step}
 use Rattle.isolation.specs.Isolation.{Confined}
 use Rattle.isolation.proofs.Theorem.{step_confined}
-
--- an instruction that is not judged a violation is carried out
-pub instructed : (m n : Machine) (pp b : Bool) (x : Instruction) (v : Option Violation) (t : Cpu) (ws : List ℕ)
-    → let w : ℕ = read m.words m.cpu.work.p in x ≡ decoded w (address m.cpu.work.p m.cpu.work m.words w) (relative m.cpu.work.p w) → ws ≡ m.words
-    → v ≡ judge (m.cpu.switch && not pp) m.cpu.guard.protection m.cpu.work.p (class x) → v ≡ None
-    → b ≡ exits m.cpu.mark pp → t ≡ fetch_cpu pp m.cpu → n ≡ act b x (record { cpu = t; words = ws }) → n ≡ (by_fetch (Some pp) m).after
-unfolding instruction
-instructed m n pp b x v t ws ex ew ev en eb et ea =
-    let judged : None ≡ judge (m.cpu.switch && not pp) m.cpu.guard.protection m.cpu.work.p (class (instruction m)) =
-    sym en ∙ ev ∙ ap (λ y. judge (m.cpu.switch && not pp) m.cpu.guard.protection m.cpu.work.p (class y)) ex in
-    let machine : ◌≡◌ {A = Machine} (record { cpu = t; words = ws }) (fetched pp m) = λ i. record { cpu = et i; words = ew i } in
-    ea ∙ ap (act b x) machine ∙ ap (λ c. act c x (fetched pp m)) eb ∙ ap (λ y. act (exits m.cpu.mark pp) y (fetched pp m)) ex ∙ ap (λ j. (by_judgement j pp m).after) judged
 
 -- a step by the way that the code takes
 pub at_entry : (m : Machine) (o : Option ℕ) → o ≡ due m.cpu.mark m.cpu.guard → by_entry o m ≡ step m

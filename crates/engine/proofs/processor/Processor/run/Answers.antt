@@ -1,11 +1,7 @@
-use Rattle.std.proofs.Common.{refl, ◌∙◌, arith}
-use Rattle.machine.proofs.Tallies.{none_counted}
+use Rattle.std.proofs.Common.{◌∙◌, arith}
 use Rattle.engine.specs.View.{seen}
-use Rattle.engine.proofs.Runs.{begin, more, ran}
+use Rattle.engine.proofs.Runs.{more, ran}
 use Rattle.engine.proofs.processor.Processor.run.Goals as goal
-
-pub loop-init : goal.loop-init
-loop-init g c = (begin c.args.steps (seen g.M.Memory.words c.args.self.now) c.default-counts.result (none_counted c.default-counts.result c.default-counts.ensures), refl)
 
 pub loop-preserved : goal.loop-preserved
 loop-preserved g c =

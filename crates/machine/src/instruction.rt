@@ -78,11 +78,14 @@ pub enum Instruction {
     NotCarried,
 }
 
+// The codes that have an effective address: bit n from the right is code n's, and 2, 3, 5, 6, 7 and 13 have none.
+const ADDRESSED: u16 = 0b1101_1111_0001_0011;
+
 /// Whether the code of an instruction word has an effective address.
 pub fn addresses(word: u16) -> bool
     ensures { result ≡ has_address word }
 {
-    matches!(word / 4096, 0 | 1 | 4 | 8..=12 | 14 | 15)
+    (ADDRESSED >> (word / 4096)) % 2 == 1
 }
 
 /// The instruction of a word, of its effective address and of the target that a branch of it has.
@@ -93,53 +96,66 @@ pub fn decode(word: u16, address: u16, target: u16) -> Instruction
     let joins = word / 1024 % 4;
     let mode = address / 4096;
     let function = address % 4096;
-    match (word / 4096, mode, function) {
-        (0, 0, 0x000..=0x007) => Instruction::WriteRegister(function as u8),
-        (0, 0, 0x010..=0x01f) => Instruction::Write(
-            WriteFunction::Protection((function - 0x10) as u8),
-            address,
-        ),
-        (0, 0, 0x020) => Instruction::Write(WriteFunction::Inhibits, address),
-        (0, 0, 0x030) => Instruction::Write(WriteFunction::Wait, address),
-        (0, 0, 0x031) => Instruction::Write(WriteFunction::Exit, address),
-        (0, 1, 0) => Instruction::Write(WriteFunction::Levels(LevelControl::Disarm), address),
-        (0, 1, 1) => Instruction::Write(WriteFunction::Levels(LevelControl::Arm), address),
-        (0, 1, 2) => Instruction::Write(WriteFunction::Levels(LevelControl::Disable), address),
-        (0, 1, 3) => Instruction::Write(WriteFunction::Levels(LevelControl::Enable), address),
-        (0, 1, 4) => Instruction::Write(WriteFunction::Levels(LevelControl::Trigger), address),
-        (0, _, _) => Instruction::Write(WriteFunction::Unlisted, address),
-        (1, 0, 0x000..=0x007) => Instruction::ReadRegister(function as u8),
-        (1, 0, 0x010..=0x01f) => Instruction::Read(
-            ReadFunction::Protection((function - 0x10) as u8),
-            address,
-        ),
-        (1, 0, 0x020) => Instruction::Read(ReadFunction::Status, address),
-        (1, 1, 0) => Instruction::Read(ReadFunction::Levels(Property::Enabled), address),
-        (1, 1, 1) => Instruction::Read(ReadFunction::Levels(Property::Waiting), address),
-        (1, 1, 2) => Instruction::Read(ReadFunction::Levels(Property::Active), address),
-        (1, _, _) => Instruction::Read(ReadFunction::Unlisted, address),
-        (4, _, _) => Instruction::B(address),
-        (6, _, _) if bits == 0 => Instruction::Branch(Condition::Bno, target),
-        (6, _, _) if bits == 1 => Instruction::Branch(Condition::Bnc, target),
-        (6, _, _) if bits == 2 => Instruction::Branch(Condition::Baz, target),
-        (6, _, _) if bits == 3 => Instruction::Branch(Condition::Bix, target),
-        (6, _, _) if bits == 4 => Instruction::Branch(Condition::Bxno, target),
-        (6, _, _) if bits == 5 => Instruction::Branch(Condition::Bxnc, target),
-        (6, _, _) if bits == 6 => Instruction::Branch(Condition::Ben, target),
-        (6, _, _) => Instruction::Branch(Condition::Ban, target),
-        (7, _, _) if joins == 0 => Instruction::Copy(transfer_of(Join::And, word)),
-        (7, _, _) if joins == 1 => Instruction::Copy(transfer_of(Join::Or, word)),
-        (7, _, _) if joins == 2 => Instruction::Copy(transfer_of(Join::ExclusiveOr, word)),
-        (7, _, _) => Instruction::Copy(transfer_of(Join::Add, word)),
-        (8, _, _) => Instruction::Lda(address),
-        (9, _, _) => Instruction::And(address),
-        (10, _, _) => Instruction::Add(address),
-        (11, _, _) => Instruction::Sub(address),
-        (12, _, _) => Instruction::Ldx(address),
-        (14, _, _) => Instruction::Sta(address),
-        (15, _, _) => Instruction::Im(address),
+    let number = (address % 16) as u8;
+    match word / 4096 {
+        0 if mode == 0 && function <= 0x007 => Instruction::WriteRegister(number),
+        0 if mode == 0 && matches!(function, 0x010..=0x01f) => {
+            Instruction::Write(WriteFunction::Protection(number), address)
+        }
+        0 if mode == 0 && function == 0x020 => Instruction::Write(WriteFunction::Inhibits, address),
+        0 if mode == 0 && function == 0x030 => Instruction::Write(WriteFunction::Wait, address),
+        0 if mode == 0 && function == 0x031 => Instruction::Write(WriteFunction::Exit, address),
+        0 if mode == 1 && function == 0 => write_levels(LevelControl::Disarm, address),
+        0 if mode == 1 && function == 1 => write_levels(LevelControl::Arm, address),
+        0 if mode == 1 && function == 2 => write_levels(LevelControl::Disable, address),
+        0 if mode == 1 && function == 3 => write_levels(LevelControl::Enable, address),
+        0 if mode == 1 && function == 4 => write_levels(LevelControl::Trigger, address),
+        0 => Instruction::Write(WriteFunction::Unlisted, address),
+        1 if mode == 0 && function <= 0x007 => Instruction::ReadRegister(number),
+        1 if mode == 0 && matches!(function, 0x010..=0x01f) => {
+            Instruction::Read(ReadFunction::Protection(number), address)
+        }
+        1 if mode == 0 && function == 0x020 => Instruction::Read(ReadFunction::Status, address),
+        1 if mode == 1 && function == 0 => read_levels(Property::Enabled, address),
+        1 if mode == 1 && function == 1 => read_levels(Property::Waiting, address),
+        1 if mode == 1 && function == 2 => read_levels(Property::Active, address),
+        1 => Instruction::Read(ReadFunction::Unlisted, address),
+        4 => Instruction::B(address),
+        6 if bits == 0 => Instruction::Branch(Condition::Bno, target),
+        6 if bits == 1 => Instruction::Branch(Condition::Bnc, target),
+        6 if bits == 2 => Instruction::Branch(Condition::Baz, target),
+        6 if bits == 3 => Instruction::Branch(Condition::Bix, target),
+        6 if bits == 4 => Instruction::Branch(Condition::Bxno, target),
+        6 if bits == 5 => Instruction::Branch(Condition::Bxnc, target),
+        6 if bits == 6 => Instruction::Branch(Condition::Ben, target),
+        6 => Instruction::Branch(Condition::Ban, target),
+        7 if joins == 0 => Instruction::Copy(transfer_of(Join::And, word)),
+        7 if joins == 1 => Instruction::Copy(transfer_of(Join::Or, word)),
+        7 if joins == 2 => Instruction::Copy(transfer_of(Join::ExclusiveOr, word)),
+        7 => Instruction::Copy(transfer_of(Join::Add, word)),
+        8 => Instruction::Lda(address),
+        9 => Instruction::And(address),
+        10 => Instruction::Add(address),
+        11 => Instruction::Sub(address),
+        12 => Instruction::Ldx(address),
+        14 => Instruction::Sta(address),
+        15 => Instruction::Im(address),
         _ => Instruction::NotCarried,
     }
+}
+
+// WD to the levels.
+fn write_levels(control: LevelControl, address: u16) -> Instruction
+    ensures { result ≡ Instruction.Write (WriteFunction.Levels control) address }
+{
+    Instruction::Write(WriteFunction::Levels(control), address)
+}
+
+// RD of the levels.
+fn read_levels(property: Property, address: u16) -> Instruction
+    ensures { result ≡ Instruction.Read (ReadFunction.Levels property) address }
+{
+    Instruction::Read(ReadFunction::Levels(property), address)
 }
 
 // The other fields of a copy.

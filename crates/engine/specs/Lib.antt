@@ -1,3 +1,4 @@
 pub mod View
 pub mod Calls
 pub mod Loads
+pub mod Steps

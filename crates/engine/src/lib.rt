@@ -8,4 +8,4 @@ mod processor;
 mod running;
 mod steps;
 
-pub use processor::{Idle, Live, Processor, Running};
+pub use processor::{Idle, Processor, Running};

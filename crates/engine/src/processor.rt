@@ -11,11 +11,6 @@ pub struct Idle;
 #[derive(Drop)]
 pub struct Running;
 
-/// The states in which a processor is stepped.
-pub trait Live {}
-
-impl Live for Running {}
-
 /// A processor in the state `K` that owns its memory. It is neither copied nor dropped: it hands its memory back.
 pub struct Processor<K, M> {
     pub(crate) state: State,

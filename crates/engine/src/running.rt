@@ -5,12 +5,12 @@ ghost use Rattle.isolation.specs.Steps.{Each};
 ghost use Rattle.machine.specs.Calls.{after_call, after_calls, answer as answered, as_answer, run_answer, run_trail, signal_answer, total};
 ghost use Rattle.engine.specs.View.{seen};
 
-use crate::processor::{Idle, Live, Processor, Running};
+use crate::processor::{Idle, Processor, Running};
 use levels::{Event, LevelState};
 use machine::{Answer, Call, Counts, LONGEST_RUN, Refusal, Signalled};
 use memory::Memory;
 
-impl<K: Live, M: Memory> Processor<K, M> {
+impl<M: Memory> Processor<Running, M> {
     /// At most 1,000,000 steps, and how many were of each kind.
     pub fn run(&mut self, steps: u32) -> Result<Counts, Refusal>
         ensures answer { result ≡ run_answer steps (seen M.words self.old) }
@@ -85,9 +85,7 @@ impl<K: Live, M: Memory> Processor<K, M> {
             let _ = self.perform(*call);
         }
     }
-}
 
-impl<M: Memory> Processor<Running, M> {
     /// Makes the processor idle, with all that it holds.
     pub fn halt(self) -> Processor<Idle, M>
         ensures after { seen M.words result ≡ seen M.words self }

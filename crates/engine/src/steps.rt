@@ -1,19 +1,20 @@
 //! One step.
 ghost use Rattle.std.specs.Prelude.{◌≡◌, true, Some};
-ghost use Rattle.machine.specs.Decode.{address as addressed, decoded, relative};
-ghost use Rattle.machine.specs.Step.{act, at_fetch, by_fetch, enter, index, step as stepped};
+ghost use Rattle.machine.specs.Decode.{address as addressed, relative};
+ghost use Rattle.machine.specs.Step.{at_fetch, by_fetch, enter, exits, fetched, index, instruction_at, permitted, step as stepped};
 ghost use Rattle.machine.specs.Words.{read as word_at};
 ghost use Rattle.isolation.specs.Isolation.{Confined};
+ghost use Rattle.engine.specs.Steps.{executed, judgement};
 ghost use Rattle.engine.specs.View.{seen};
 
-use crate::processor::{Live, Processor};
+use crate::processor::{Processor, Running};
 use levels::bit_of;
 use machine::{
     Instruction, Mark, Outcome, Violation, ViolationKind, Work, add, addresses, decode, subtract,
 };
 use memory::Memory;
 
-impl<K: Live, M: Memory> Processor<K, M> {
+impl<M: Memory> Processor<Running, M> {
     // Entry of a level: its cell is read before the status words are stored.
     fn enter(&mut self, number: u8)
         ensures after { seen M.words self.new ≡ enter number (seen M.words self.old) }
@@ -27,64 +28,92 @@ impl<K: Live, M: Memory> Processor<K, M> {
         self.state.enter(number, cell);
     }
 
-    // Carries an instruction out after its fetch; an LDX exits where `exits`.
-    fn act(&mut self, exits: bool, instruction: Instruction)
-        ensures after { seen M.words self.new ≡ act exits instruction (seen M.words self.old) }
+    // The word at an address, once the instruction at P is fetched.
+    fn operand(&mut self, pp: bool, address: u16) -> u16
+        ensures answer { result ≡ word_at (M.words self.old.memory) address }
+        ensures after { seen M.words self.new ≡ fetched pp (seen M.words self.old) }
+        ensures outside { M.outer self.new.memory ≡ M.outer self.old.memory }
+    {
+        self.state.fetch(pp);
+        read(&mut self.memory, address)
+    }
+
+    // Judges an instruction at P and carries it out, at the PP that its fetch leaves. One match decides all, since each step makes it.
+    fn execute(&mut self, pp: bool, instruction: Instruction) -> Result<(), Violation>
+        ensures answer { result ≡ permitted (judgement pp instruction (seen M.words self.old)) }
+        ensures after { seen M.words self.new ≡ executed (judgement pp instruction (seen M.words self.old)) pp instruction (seen M.words self.old) }
         ensures outside { M.outer self.new.memory ≡ M.outer self.old.memory }
     {
         match instruction {
-            Instruction::Lda(address) => self.state.work.a = read(&mut self.memory, address),
-            Instruction::And(address) => self.state.work.a &= read(&mut self.memory, address),
+            Instruction::Lda(address) => self.state.work.a = self.operand(pp, address),
+            Instruction::And(address) => self.state.work.a &= self.operand(pp, address),
             Instruction::Add(address) => {
-                let sum = add(self.state.work.a, read(&mut self.memory, address), false);
+                let sum = add(self.state.work.a, self.operand(pp, address), false);
                 self.state.work.settle(sum);
             }
             Instruction::Sub(address) => {
-                let sum = subtract(self.state.work.a, read(&mut self.memory, address));
+                let sum = subtract(self.state.work.a, self.operand(pp, address));
                 self.state.work.settle(sum);
             }
-            Instruction::Ldx(address) => self.index(exits, address),
+            Instruction::Ldx(address) => self.index(pp, address),
             Instruction::Sta(address) => {
-                let word = self.state.work.a;
-                self.memory.store(address, word);
+                self.state.judge(pp, instruction)?;
+                self.state.fetch(pp);
+                self.memory.store(address, self.state.work.a);
             }
             Instruction::Im(address) => {
-                let sum = add(read(&mut self.memory, address), 1, false);
+                self.state.judge(pp, instruction)?;
+                let sum = add(self.operand(pp, address), 1, false);
                 self.state.work.flag(sum);
                 self.memory.store(address, sum.word);
             }
-            Instruction::B(address) => self.state.work.p = address,
-            Instruction::Branch(condition, address) => self.state.work.branch(condition, address),
-            Instruction::Copy(transfer) => self.state.work.copy(transfer),
-            Instruction::ReadRegister(number) => self.state.work.a = self
-                .state
-                .work
-                .register(number),
+            Instruction::B(address) => {
+                self.state.fetch(pp);
+                self.state.work.p = address;
+            }
+            Instruction::Branch(condition, address) => {
+                self.state.fetch(pp);
+                self.state.work.branch(condition, address);
+            }
+            Instruction::Copy(transfer) => {
+                self.state.fetch(pp);
+                self.state.work.copy(transfer);
+            }
+            Instruction::ReadRegister(number) => {
+                self.state.fetch(pp);
+                self.state.work.a = self.state.work.register(number);
+            }
             Instruction::WriteRegister(number) => {
+                self.state.fetch(pp);
                 let word = self.state.work.a;
                 let _ = self.state.work.put(number, word);
             }
-            Instruction::Read(function, _) => self.state.read(function),
-            Instruction::Write(function, _) => self.state.write(function),
-            Instruction::NotCarried => {}
+            Instruction::Read(function, _) => {
+                self.state.judge(pp, instruction)?;
+                self.state.fetch(pp);
+                self.state.read(function);
+            }
+            Instruction::Write(function, _) => {
+                self.state.judge(pp, instruction)?;
+                self.state.fetch(pp);
+                self.state.write(function);
+            }
+            Instruction::NotCarried => self.state.fetch(pp),
         }
+        Ok(())
     }
 
-    // Fetches at P, judges the instruction and carries it out, at the PP that the fetch leaves.
-    #[tactic(auto, unfolding(machine::specs::Step::instruction))]
+    // Fetches at P, and carries the instruction out or makes it a violation, at the PP that the fetch leaves.
     fn instruct(&mut self, pp: bool) -> Outcome
         ensures answer { result ≡ (by_fetch (Some pp) (seen M.words self.old)).outcome }
         ensures after { seen M.words self.new ≡ (by_fetch (Some pp) (seen M.words self.old)).after }
         ensures outside { M.outer self.new.memory ≡ M.outer self.old.memory }
     {
         let instruction = instruction(&mut self.memory, self.state.work);
-        if let Some(found) = self.state.judge(pp, instruction) {
-            return self.state.violate(pp, found);
+        match self.execute(pp, instruction) {
+            Ok(()) => instruction.outcome(),
+            Err(found) => self.state.violate(pp, found),
         }
-        let exits = self.state.exits(pp);
-        self.state.fetch(pp);
-        self.act(exits, instruction);
-        instruction.outcome()
     }
 
     // Fetches at P, unless that is an entry violation.
@@ -128,11 +157,12 @@ impl<K: Live, M: Memory> Processor<K, M> {
     }
 
     // LDX: an exit by two status words, or an index.
-    fn index(&mut self, exits: bool, address: u16)
-        ensures after { seen M.words self.new ≡ index exits address (seen M.words self.old) }
+    fn index(&mut self, pp: bool, address: u16)
+        ensures after { let m = seen M.words self.old in seen M.words self.new ≡ index (exits m.cpu.mark pp) address (fetched pp m) }
         ensures outside { M.outer self.new.memory ≡ M.outer self.old.memory }
     {
-        let first = read(&mut self.memory, address);
+        let exits = self.state.exits(pp);
+        let first = self.operand(pp, address);
         if exits {
             let second = read(&mut self.memory, address.wrapping_add(1));
             self.state.leave(first, second);
@@ -180,8 +210,9 @@ fn address<M: Memory>(memory: &mut M, work: Work, word: u16) -> u16
 }
 
 // The instruction at P.
+#[tactic(auto, unfolding(machine::specs::Step::instruction_at))]
 fn instruction<M: Memory>(memory: &mut M, work: Work) -> Instruction
-    ensures answer { let words = M.words memory.old in let word = word_at words work.p in result ≡ decoded word (addressed work.p work words word) (relative work.p word) }
+    ensures answer { result ≡ instruction_at work (M.words memory.old) }
     ensures same { M.words memory.new ≡ M.words memory.old }
     ensures outside { M.outer memory.new ≡ M.outer memory.old }
 {

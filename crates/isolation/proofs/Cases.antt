@@ -15,7 +15,7 @@ use Rattle.machine.specs.declared.state.Violation.{Violation}
 use Rattle.machine.specs.declared.work.Work.{Work}
 use Rattle.levels.specs.Levels.{is_active, level_at, next_state, told}
 use Rattle.machine.specs.State.{Machine}
-use Rattle.machine.specs.Step.{Moment, act, by_entry, by_fetch, by_judgement, by_mark, carried, class, due, enter, exits, fetch_pp, fetched, instruction, judge, on_work, step, store, stores, violate, violation}
+use Rattle.machine.specs.Step.{Class, Moment, act, by_entry, by_fetch, by_judgement, by_mark, carried, class, due, enter, exits, fetch_pp, fetched, instruction, judge, none_such, on_work, plain, privileged, step, store, stores, violate, violation}
 use Rattle.machine.specs.Words.{protects}
 use Rattle.isolation.specs.Steps.{Enters, Executes, Faults, PProtected, SameWords, zero_waiting}
 
@@ -153,6 +153,13 @@ no_exits Unset = refl
 no_exits Wait = refl
 no_exits Exit = refl
 
+-- protected code is not judged
+judge_front : (ps : List ℕ) (i : ℕ) (k : Class) → judge false ps i k ≡ None
+judge_front ps i plain = refl
+judge_front ps i (stores ea) = refl
+judge_front ps i (privileged ea) = refl
+judge_front ps i none_such = refl
+
 -- A STEP BY CASES, WITH THE SWITCH ON
 module _ (G : Moment → Type 0) (m : Machine) (on : m.cpu.switch ≡ true)
     (enters : (k : ℕ) → due m.cpu.mark m.cpu.guard ≡ Some k → G (from m (Entered k) (enter k m)))
@@ -162,8 +169,8 @@ module _ (G : Moment → Type 0) (m : Machine) (on : m.cpu.switch ≡ true)
     → (Executes o → PProtected m ≡ false) → G (from m o t)) where
   go_front : (b : Bool) → m.cpu.pp ≡ true → PProtected m ≡ true
       → G (by_judgement (judge (b && false) m.cpu.guard.protection m.cpu.work.p (class (instruction m))) true m)
-  go_front true p l = front p l
-  go_front false p l = front p l
+  go_front true p l = subst (λ v. G (by_judgement v true m)) (sym (judge_front m.cpu.guard.protection m.cpu.work.p (class (instruction m)))) (front p l)
+  go_front false p l = subst (λ v. G (by_judgement v true m)) (sym (judge_front m.cpu.guard.protection m.cpu.work.p (class (instruction m)))) (front p l)
 
   module _ (d : due m.cpu.mark m.cpu.guard ≡ None) (w : m.cpu.mark ≡ Wait → ⊥) where
     go_judged : (v : Option Violation) → judge true m.cpu.guard.protection m.cpu.work.p (class (instruction m)) ≡ v → PProtected m ≡ false

@@ -4,7 +4,7 @@ use native.Mathlib.Nat.{zero-div}
 use Rattle.std.proofs.lemmas.List.{get_or_append_left, get_or_past, get_or-set_other}
 use Rattle.std.proofs.lemmas.Bool.{and_parts, cases_eq, cases_lt, eqb-true, false≢true}
 use Rattle.levels.specs.Levels.{lowest}
-use Rattle.machine.specs.Step.{instruction, step}
+use Rattle.machine.specs.Step.{instruction_at, step}
 use Rattle.machine.specs.Words.{page_protected, protects, read}
 use Rattle.isolation.specs.Examples.{Agrees, Stalls, Violates, active, four, going, one, other_program, program, three, two}
 
@@ -37,7 +37,7 @@ only_1 p e =
     by false f t = absurd (false≢true f)
 
 pub violates : Violates
-unfolding going program active step instruction lowest
+unfolding going program active step instruction_at lowest
 violates = record { going_on = record { pp = refl; last = refl; switch = refl }; steps = refl }
 
 program_length : length program ≡ 8192
@@ -46,11 +46,11 @@ program_length = refl
 
 -- the words of both machines once they stand in their background
 one_words : one.words ≡ program
-unfolding one going program step instruction lowest
+unfolding one going program step instruction_at lowest
 one_words = refl
 
 two_words : two.words ≡ set other_program 0x0011 0x0042
-unfolding two going program other_program step instruction lowest
+unfolding two going program other_program step instruction_at lowest
 two_words = refl
 
 same_page : (a : ℕ) → protects map_1 a ≡ true → read two.words a ≡ read one.words a
@@ -64,7 +64,7 @@ same_page a e =
     ∙ ap (λ ws. read ws a) (sym one_words)
 
 pub agrees : Agrees
-unfolding one two going program other_program step instruction lowest map_1
+unfolding one two going program other_program step instruction_at lowest map_1
 agrees = record {
   here = record { pp = refl; last = refl; switch = refl };
   there = record { pp = refl; last = refl; switch = refl };
@@ -81,7 +81,7 @@ agrees = record {
 }
 
 pub stalls : Stalls
-unfolding three four going program active step instruction lowest
+unfolding three four going program active step instruction_at lowest
 stalls = record {
   here = record { pp = refl; last = refl; switch = refl };
   there = record { pp = refl; last = refl; switch = refl };

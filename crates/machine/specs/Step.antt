@@ -1,5 +1,5 @@
 -- One step of the machine. The last definition is the step itself; each is made of those above it.
-use Rattle.std.specs.Prelude.{ℕ, ◌+◌, ◌*◌, Bool, true, false, cond, not, ◌&&◌, List, Some, None, Option, bit_and, slice_set}
+use Rattle.std.specs.Prelude.{ℕ, ◌+◌, ◌*◌, Bool, true, false, cond, not, ◌&&◌, List, Some, None, Ok, Err, Option, Result, bit_and, slice_set}
 use Rattle.machine.specs.declared.call.Outcome.{Outcome}
 use Rattle.machine.specs.declared.call.Outcome.TheVariants.{Entered, Idle, Violated, Stalled, NotCarried as Uncarried, Done}
 use Rattle.machine.specs.declared.instruction.ReadFunction.{ReadFunction}
@@ -144,11 +144,15 @@ class NotCarried = none_such
 
 -- the violation, if any, of an instruction at i: the first argument says whether it is of the background
 abbrev pub judge : Bool → List ℕ → ℕ → Class → Option Violation
-judge false ps i c = None
-judge true ps i plain = None
-judge true ps i (stores ea) = cond (protects ps ea) (Some (record { kind = Store; place = i; aim = ea })) None
-judge true ps i (privileged ea) = Some (record { kind = Operation; place = i; aim = ea })
-judge true ps i none_such = None
+judge background ps i plain = None
+judge background ps i (stores ea) = cond (background && protects ps ea) (Some (record { kind = Store; place = i; aim = ea })) None
+judge background ps i (privileged ea) = cond background (Some (record { kind = Operation; place = i; aim = ea })) None
+judge background ps i none_such = None
+
+-- an instruction is let through, or its violation is told
+abbrev pub permitted : Option Violation → Result (Unit {0}) Violation
+permitted (Some x) = Err x
+permitted None = Ok tt
 
 -- whether level 0 is active
 abbrev pub stalls : Cpu → Bool
@@ -188,12 +192,15 @@ fetch_cpu pp s = set_last s.work.p (set_mark Unset (set_pp pp (set_work (set_p (
 abbrev pub fetched : Bool → Machine → Machine
 fetched pp m = on_cpu (fetch_cpu pp) m
 
+-- the instruction at P, by the registers and the words
+unfoldable pub instruction_at : Work → List ℕ → Instruction
+instruction_at v ws =
+    let w : ℕ = read ws v.p in
+    decoded w (address v.p v ws w) (relative v.p w)
+
 -- the instruction at P
-unfoldable pub instruction : Machine → Instruction
-instruction m =
-    let i : ℕ = m.cpu.work.p in
-    let w : ℕ = read m.words i in
-    decoded w (address i m.cpu.work m.words w) (relative i w)
+abbrev pub instruction : Machine → Instruction
+instruction m = instruction_at m.cpu.work m.words
 
 -- whether an LDX exits: the exit mark is set, and PP is 1 after its fetch
 abbrev pub exits : Mark → Bool → Bool

@@ -2,7 +2,7 @@
 ghost use Rattle.std.specs.Prelude.{◌≡◌, true, not, ◌&&◌};
 ghost use Rattle.levels.specs.Bits.{bit};
 ghost use Rattle.machine.specs.State.{set_work};
-ghost use Rattle.machine.specs.Step.{class, due, enter_cpu, exits, fetch_cpu, fetch_pp, judge, leave_cpu, read_function, stalls, status, violate_cpu, violation, write_function};
+ghost use Rattle.machine.specs.Step.{class, due, enter_cpu, exits, fetch_cpu, fetch_pp, judge, leave_cpu, permitted, read_function, stalls, status, violate_cpu, violation, write_function};
 ghost use Rattle.machine.specs.View.{cpu_of};
 ghost use Rattle.machine.specs.Words.{protects};
 ghost use Rattle.machine.specs.Work.{set_oc};
@@ -80,23 +80,20 @@ impl State {
         (self.pp || !page).then_some(page)
     }
 
-    /// The violation of an instruction at P, at the PP that its fetch left.
-    pub fn judge(&self, pp: bool, instruction: Instruction) -> Option<Violation>
-        ensures { result ≡ judge ((cpu_of self.now).switch && not pp) (cpu_of self.now).guard.protection (cpu_of self.now).work.p (class instruction) }
+    /// Lets an instruction at P through, or answers its violation, at the PP that its fetch leaves.
+    pub fn judge(&self, pp: bool, instruction: Instruction) -> Result<(), Violation>
+        ensures { result ≡ permitted (judge ((cpu_of self.now).switch && not pp) (cpu_of self.now).guard.protection (cpu_of self.now).work.p (class instruction)) }
     {
-        if !self.switch || pp {
-            return None;
-        }
+        let background = self.switch && !pp;
         let (kind, aim) = match instruction {
-            Instruction::Sta(aim) | Instruction::Im(aim) if self.protection.protects(aim) => {
-                (ViolationKind::Store, aim)
-            }
-            Instruction::Read(_, aim) | Instruction::Write(_, aim) => {
+            Instruction::Sta(aim) | Instruction::Im(aim)
+                if background && self.protection.protects(aim) => { (ViolationKind::Store, aim) }
+            Instruction::Read(_, aim) | Instruction::Write(_, aim) if background => {
                 (ViolationKind::Operation, aim)
             }
-            _ => return None,
+            _ => return Ok(()),
         };
-        Some(Violation {
+        Err(Violation {
             kind,
             place: self.work.p,
             aim,

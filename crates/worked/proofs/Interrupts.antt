@@ -1,11 +1,11 @@
 -- The worked cases of levels, entries and exits, by computation.
 use Rattle.std.proofs.Common.{refl}
 use Rattle.levels.specs.Levels.{bits_of, control_each, lowest, released}
-use Rattle.machine.specs.Step.{instruction, step}
+use Rattle.machine.specs.Step.{instruction_at, step}
 use Rattle.worked.specs.Interrupts.{Entries, Exits, Levels}
 
 pub levels : Levels
-unfolding step instruction lowest bits_of control_each released
+unfolding step instruction_at lowest bits_of control_each released
 levels = record {
   disarm = refl;
   arm = refl;
@@ -29,7 +29,7 @@ levels = record {
 }
 
 pub entries : Entries
-unfolding step instruction lowest bits_of control_each released
+unfolding step instruction_at lowest bits_of control_each released
 entries = record {
   entered = refl;
   words = refl;
@@ -48,7 +48,7 @@ entries = record {
 }
 
 pub exits : Exits
-unfolding step instruction lowest bits_of control_each released
+unfolding step instruction_at lowest bits_of control_each released
 exits = record {
   o_and_p = refl;
   c_and_p = refl;

@@ -1,11 +1,11 @@
 -- The worked cases, by computation.
 use Rattle.std.proofs.Common.{refl}
 use Rattle.levels.specs.Levels.{lowest}
-use Rattle.machine.specs.Step.{instruction, step}
+use Rattle.machine.specs.Step.{instruction_at, step}
 use Rattle.worked.specs.Cases.{Cases, ready}
 
 pub cases : Cases
-unfolding ready step instruction lowest
+unfolding ready step instruction_at lowest
 cases = record {
   inverted = refl;
   negated_least = record { a_is = refl; o_is = refl; c_is = refl };

@@ -2,7 +2,7 @@ use Rattle.std.proofs.Common.{◌≡◌, refl}
 use Rattle.machine.specs.View.{machine_of}
 use Rattle.engine.specs.View.{seen}
 use Rattle.engine.proofs.Stepping.{steps_idle, steps_in, steps_on}
-use Rattle.engine.proofs.processor.Processor.step.Goals as goal
+use Rattle.engine.proofs.steps.Processor+Running+M.step.Goals as goal
 
 pub returns-in-Some : goal.returns-in-Some
 returns-in-Some g c =

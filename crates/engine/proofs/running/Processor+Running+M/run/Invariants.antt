@@ -1,7 +1,7 @@
 use Rattle.std.proofs.Common.{◌≡◌}
 use Rattle.engine.specs.View.{seen}
 use Rattle.engine.proofs.Runs.{HalfRun}
-use Rattle.engine.proofs.processor.Processor.run.Given as goal
+use Rattle.engine.proofs.running.Processor+Running+M.run.Given as goal
 
 abbrev pub invariant-loop : goal.invariant-loop
 invariant-loop g l =

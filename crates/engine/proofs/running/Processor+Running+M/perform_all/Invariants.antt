@@ -1,7 +1,7 @@
 use Rattle.std.proofs.Common.{◌≡◌, drop}
 use Rattle.machine.specs.Calls.{after_calls}
 use Rattle.engine.specs.View.{seen}
-use Rattle.engine.proofs.processor.Processor.perform_all.Given as goal
+use Rattle.engine.proofs.running.Processor+Running+M.perform_all.Given as goal
 
 abbrev pub invariant-loop-call : goal.invariant-loop-call
 invariant-loop-call g l =

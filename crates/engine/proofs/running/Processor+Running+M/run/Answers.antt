@@ -1,7 +1,7 @@
 use Rattle.std.proofs.Common.{◌∙◌, arith}
 use Rattle.engine.specs.View.{seen}
 use Rattle.engine.proofs.Runs.{more, ran}
-use Rattle.engine.proofs.processor.Processor.run.Goals as goal
+use Rattle.engine.proofs.running.Processor+Running+M.run.Goals as goal
 
 pub loop-preserved : goal.loop-preserved
 loop-preserved g c =

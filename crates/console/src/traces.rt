@@ -1,6 +1,6 @@
 //! A trace of an image.
 ghost use Rattle.std.specs.Prelude.{◌≡◌, IfOk, string_bytes, OnOk};
-ghost use Rattle.machine.specs.Calls.{Room};
+ghost use Rattle.machine.specs.Tallies.{Room};
 ghost use Rattle.engine.specs.View.{seen};
 ghost use Rattle.console.specs.Traces.{at, begun, ended, signal_at, signals_at, step_at, trace_of, trace_text};
 

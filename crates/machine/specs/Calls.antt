@@ -1,5 +1,5 @@
 -- The calls of a running processor: what each answers, and the machine after it.
-use Rattle.std.specs.Prelude.{ℕ, ◌+◌, ◌-◌, ◌^◌, ◌<◌, min, Bool, true, cond, List, [], ◌∷◌, length, replicate, Ok, Err, Result, ◌==◌, nat_lt, slice_index}
+use Rattle.std.specs.Prelude.{ℕ, ◌+◌, Bool, true, cond, List, [], ◌∷◌, length, replicate, Ok, Err, Result, ◌==◌, nat_lt, slice_index}
 use Rattle.machine.specs.declared.call.Answer.{Answer}
 use Rattle.machine.specs.declared.call.Answer.TheVariants.{Stepped, Ran, Signalled as Signalling, Registers as AllRegisters, Protection as AllProtection, Violation as Latest, Word as OneWord, Refused}
 use Rattle.machine.specs.declared.call.Call.{Call}
@@ -100,21 +100,6 @@ counted Idle = record { done = 0; not_carried = 0; violations = 0; stalls = 0; e
 abbrev pub tallied : Outcome → Counts → Counts
 tallied o n = plus n (counted o)
 
--- a count with k more; one that 32 bits cannot hold stops at their greatest number
-abbrev pub capped : ℕ → ℕ → ℕ
-capped k n = cond (k == 0) n (min (n + k) (2 ^ 32 - 1))
-
--- counts and one step more, as 32 bits hold them
-abbrev pub capped_tally : Outcome → Counts → Counts
-capped_tally o n = record {
-  done = capped (counted o).done n.done;
-  not_carried = capped (counted o).not_carried n.not_carried;
-  violations = capped (counted o).violations n.violations;
-  stalls = capped (counted o).stalls n.stalls;
-  entries = capped (counted o).entries n.entries;
-  idles = capped (counted o).idles n.idles;
-}
-
 -- the counts of steps
 abbrev pub counts_of : List Moment → Counts
 counts_of [] = no_counts
@@ -123,10 +108,6 @@ counts_of (x ∷ xs) = plus (counted x.outcome) (counts_of xs)
 -- all steps that are counted
 abbrev pub total : Counts → ℕ
 total n = n.done + n.not_carried + n.violations + n.stalls + n.entries + n.idles
-
--- counts that one more step does not bring past 32 bits
-abbrev pub Room : Counts → Type 0
-Room n = total n < 2 ^ 31
 
 -- ANSWERS
 

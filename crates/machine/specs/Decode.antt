@@ -71,8 +71,8 @@ transferred j w = record {
 }
 
 -- the function of RD that an address in a mode names: what is not listed is a function too
-abbrev pub read_function : ℕ → ℕ → ReadFunction
-read_function mode f =
+abbrev pub rd_function : ℕ → ℕ → ReadFunction
+rd_function mode f =
     cond (mode == 0 && (nat_le 0x010 f && nat_le f 0x01f)) (ReadProtection (f - 0x010))
     (cond (mode == 0 && f == 0x020) Status
     (cond (mode == 1 && f == 0) (ReadLevels Enabled)
@@ -80,8 +80,8 @@ read_function mode f =
     (cond (mode == 1 && f == 2) (ReadLevels Active) NoRead))))
 
 -- the function of WD
-abbrev pub write_function : ℕ → ℕ → WriteFunction
-write_function mode f =
+abbrev pub wd_function : ℕ → ℕ → WriteFunction
+wd_function mode f =
     cond (mode == 0 && (nat_le 0x010 f && nat_le f 0x01f)) (WriteProtection (f - 0x010))
     (cond (mode == 0 && f == 0x020) Inhibits
     (cond (mode == 0 && f == 0x030) Wait
@@ -98,11 +98,11 @@ names_register ea = ea / 4096 == 0 && nat_le (ea % 4096) 7
 
 -- RD: its mode is bits 0 to 3 of the effective address, and its function the rest
 abbrev pub read_direct : ℕ → Instruction
-read_direct ea = cond (names_register ea) (ReadRegister (ea % 4096)) (Read (read_function (ea / 4096) (ea % 4096)) ea)
+read_direct ea = cond (names_register ea) (ReadRegister (ea % 4096)) (Read (rd_function (ea / 4096) (ea % 4096)) ea)
 
 -- WD, by the same fields
 abbrev pub write_direct : ℕ → Instruction
-write_direct ea = cond (names_register ea) (WriteRegister (ea % 4096)) (Write (write_function (ea / 4096) (ea % 4096)) ea)
+write_direct ea = cond (names_register ea) (WriteRegister (ea % 4096)) (Write (wd_function (ea / 4096) (ea % 4096)) ea)
 
 -- the instruction of a word, its effective address and the target of a branch
 abbrev pub decoded : ℕ → ℕ → ℕ → Instruction

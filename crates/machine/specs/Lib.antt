@@ -6,5 +6,6 @@ pub mod State
 pub mod Work
 pub mod Step
 pub mod Calls
+pub mod Tallies
 pub mod View
 pub mod Text

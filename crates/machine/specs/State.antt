@@ -10,7 +10,7 @@ use Rattle.machine.specs.declared.state.Violation.{Violation}
 use Rattle.machine.specs.declared.work.Work.{Work}
 use Rattle.levels.specs.Levels.{preset, told as told_level}
 
--- what only protected code may change: the protection registers, the inhibits II and EI, and the level records
+-- what no instruction of the background may change: the protection registers, the inhibits II and EI, and the level records
 pub record Guard : Type 0 where
   pub protection : List ℕ
   pub ii : Bool

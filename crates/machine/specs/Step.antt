@@ -115,7 +115,7 @@ act exits NotCarried m = m
 
 -- what protection has to know of an instruction
 pub data Class : Type 0 where
-  -- it changes registers, O and C alone
+  -- it neither stores nor is privileged
   plain : Class
   -- it stores a word at an address
   stores : ℕ → Class

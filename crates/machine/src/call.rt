@@ -1,7 +1,8 @@
 //! The calls of a running processor, and their answers.
 ghost use Rattle.std.specs.Prelude.{◌≡◌};
-ghost use Rattle.machine.specs.Calls.{Room, capped_tally, tallied};
+ghost use Rattle.machine.specs.Calls.{tallied};
 ghost use Rattle.machine.specs.Step.{carried, class};
+ghost use Rattle.machine.specs.Tallies.{Room, capped_tally};
 
 use crate::instruction::Instruction;
 use crate::refusal::Refusal;
@@ -10,11 +11,17 @@ use crate::state::Violation;
 /// What a step was.
 #[derive(Clone, Copy, PartialEq, Eq, Debug)]
 pub enum Outcome {
+    /// A level was entered.
     Entered(u8),
+    /// The wait mark is set, and no level may enter.
     Idle,
+    /// A violation: level 0 waits.
     Violated(Violation),
+    /// A violation while level 0 is active: the wait mark is set.
     Stalled(Violation),
+    /// An instruction whose code is not carried.
     NotCarried,
+    /// An instruction was carried out.
     Done,
 }
 
@@ -59,25 +66,40 @@ impl Counts {
 /// A call of a running processor.
 #[derive(Clone, Copy, PartialEq, Eq, Debug)]
 pub enum Call {
+    /// One step.
     Step,
+    /// A run of so many steps.
     Run(u32),
+    /// A signal to a level.
     Signal(u8),
+    /// A look at registers 0 to 7.
     Registers,
+    /// A look at the protection registers.
     Protection,
+    /// A look at the latest violation.
     Violation,
+    /// A look at the memory word at an address.
     Word(u16),
 }
 
 /// The answer to a call.
 #[derive(Clone, Copy, PartialEq, Eq, Debug)]
 pub enum Answer {
+    /// What the step was.
     Stepped(Outcome),
+    /// How many steps of the run were of each kind.
     Ran(Counts),
+    /// What the signal did.
     Signalled(Signalled),
+    /// Registers 0 to 7.
     Registers([u16; 8]),
+    /// The protection registers.
     Protection([u16; 16]),
+    /// The latest violation, if there was one.
     Violation(Option<Violation>),
+    /// The memory word.
     Word(u16),
+    /// The call was refused, and changed nothing.
     Refused(Refusal),
 }
 

@@ -7,13 +7,21 @@ use levels::{LevelControl, Property, bit_of};
 /// The condition of a branch, by its mnemonic.
 #[derive(Clone, Copy)]
 pub enum Condition {
+    /// O is 0.
     Bno,
+    /// C is 0.
     Bnc,
+    /// A is 0.
     Baz,
+    /// X1, counted up, is not 0.
     Bix,
+    /// The same, where O is 0.
     Bxno,
+    /// The same, where C is 0.
     Bxnc,
+    /// E is negative.
     Ben,
+    /// A is negative.
     Ban,
 }
 
@@ -41,40 +49,65 @@ pub struct Transfer {
 /// A privileged function of RD.
 #[derive(Clone, Copy)]
 pub enum ReadFunction {
+    /// A protection register.
     Protection(u8),
+    /// The first status word.
     Status,
+    /// A bit for each level that has a property.
     Levels(Property),
+    /// Any other: it sets O and C.
     Unlisted,
 }
 
 /// A privileged function of WD.
 #[derive(Clone, Copy)]
 pub enum WriteFunction {
+    /// A protection register.
     Protection(u8),
+    /// II and EI.
     Inhibits,
+    /// Sets the wait mark.
     Wait,
+    /// Sets the exit mark.
     Exit,
+    /// A control of the levels whose bits are 1.
     Levels(LevelControl),
+    /// Any other: it sets O and C.
     Unlisted,
 }
 
 /// An instruction with its effective address, or the target of a branch.
 #[derive(Clone, Copy)]
 pub enum Instruction {
+    /// Loads A.
     Lda(u16),
+    /// A and the word.
     And(u16),
+    /// Adds the word to A.
     Add(u16),
+    /// Takes the word from A.
     Sub(u16),
+    /// Loads X1, or exits.
     Ldx(u16),
+    /// Stores A.
     Sta(u16),
+    /// Adds 1 to the word.
     Im(u16),
+    /// Branches.
     B(u16),
+    /// Branches on a condition.
     Branch(Condition, u16),
+    /// Copies from register to register.
     Copy(Transfer),
+    /// RD of a register, which is not privileged.
     ReadRegister(u8),
+    /// WD of a register, which is not privileged.
     WriteRegister(u8),
+    /// RD of a privileged function.
     Read(ReadFunction, u16),
+    /// WD of a privileged function.
     Write(WriteFunction, u16),
+    /// A code that is not carried.
     NotCarried,
 }
 

@@ -7,7 +7,7 @@ use crate::protection::Protection;
 use crate::work::Work;
 use levels::{Inhibits, Level, LevelState, Levels};
 
-/// What stands between an instruction and the next fetch.
+/// The wait mark, which makes steps idle, or the exit mark, which makes the next LDX an exit; they are never set both.
 #[derive(Clone, Copy, PartialEq, Eq, Debug)]
 pub enum Mark {
     Unset,
@@ -15,11 +15,14 @@ pub enum Mark {
     Exit,
 }
 
-/// What a background instruction tried.
+/// What a violation was.
 #[derive(Clone, Copy, PartialEq, Eq, Debug)]
 pub enum ViolationKind {
+    /// The background was about to fetch from a protected page.
     Entry,
+    /// A background instruction was a privileged RD or WD.
     Operation,
+    /// A background instruction was to store into a protected page.
     Store,
 }
 

@@ -1,4 +1,4 @@
--- Whether another block holds a portion, and plans that stay sound. Assumes nothing.
+-- Whether another block holds a portion, and plans that stay sound.
 use Rattle.std.proofs.Common.{◌≡◌, ℕ, zero, suc, ◌<◌, ◌≤◌, Bool, true, false, not, ◌&&◌, ◌||◌, eqb, ◌≢◌, List, length, get_or, take, set, sym, refl, ap, ◌∙◌, inl, inr, add-one, zero-add, arith}
 use Rattle.std.specs.List.{list_any, enumerate_from}
 use Rattle.std.proofs.Math.Bool.{or_comm}

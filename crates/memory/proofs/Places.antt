@@ -1,4 +1,4 @@
--- Writes into core and joined memory, and what they leave. Assumes nothing.
+-- Writes into core and joined memory, and what they leave.
 use Rattle.std.proofs.Common.{◌≡◌, ℕ, zero, suc, ◌+◌, ◌-◌, ◌<◌, min, List, [], ◌∷◌, ◌++◌, length, take, drop, set, sym, refl, ap, ◌∙◌, arith, MutBor}
 use Rattle.std.proofs.lemmas.List.{length-take, length-set, length-append, set-append_left, set-append_right, drop-set-lt, take-append-drop, take_at, drop_at}
 use Rattle.memory.specs.Outer.{Outer, pair, outer_row, outer_pair}

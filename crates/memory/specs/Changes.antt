@@ -1,4 +1,4 @@
--- What the changes of a plan answer and do. Assumes nothing.
+-- What the changes of a plan answer and do.
 use Rattle.std.specs.Prelude.{ℕ, zero, suc, Bool, false, cond, not, ◌&&◌, ◌||◌, List, is_ok, Ok, Err, Result, ◌==◌, nat_lt, slice_index, slice_set}
 use Rattle.memory.specs.declared.refusals.PlanRefusal.{PlanRefusal}
 use Rattle.memory.specs.declared.refusals.PlanRefusal.TheVariants.{NoBlock, NoPortion, PortionHeld}

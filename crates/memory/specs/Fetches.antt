@@ -1,4 +1,4 @@
--- What a fetch answers. Assumes nothing.
+-- What a fetch answers.
 use Rattle.std.specs.Prelude.{ℕ, cond, List, length, Some, None, Option, nat_lt, slice_index}
 
 -- the word at an address below the length, and none at or above it

@@ -1,4 +1,4 @@
--- What no call of a memory changes beside its meaning. Assumes nothing.
+-- What no call of a memory changes beside its meaning.
 use Rattle.std.specs.Prelude.{ℕ, List, ◌++◌, length, drop}
 use Rattle.std.specs.Borrow.{GName, MutBor}
 use Rattle.memory.specs.Words.{behind}

@@ -1,4 +1,4 @@
--- What the portions of every plan keep to. Names no type of the crate, so that the plan's own file can import it. Assumes nothing.
+-- What the portions of every plan keep to. Names no type of the crate, so that the plan's own file can import it.
 use Rattle.std.specs.Prelude.{ℕ, ◌<◌, List, ◌≢◌, slice_index}
 
 -- each portion is below 32

@@ -1,4 +1,4 @@
--- What every memory owes of its size, and that those of this crate have it. Assumes nothing.
+-- What every memory owes of its size, and that those of this crate have it.
 use Rattle.std.specs.Prelude.{◌≡◌, ℕ, ◌+◌, ◌*◌, ◌%◌, ◌≤◌, List, ◌++◌, length, nat_le, slice_index}
 use Rattle.std.proofs.Common.{arith, length-take, length-append}
 use Rattle.std.proofs.lemmas.List.FromFn.{length-map-range_with_len}

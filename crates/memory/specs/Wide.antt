@@ -1,4 +1,4 @@
--- Memory in 32-bit words, two 16-bit words to each, by a plan's portions. Assumes nothing.
+-- Memory in 32-bit words, two 16-bit words to each, by a plan's portions.
 use Rattle.std.specs.Prelude.{ℕ, ◌+◌, ◌*◌, ◌/◌, ◌%◌, Bool, cond, List, map, length, take, ◌==◌, nat_le, slice_index}
 use Rattle.std.specs.List.{list_any, prefix_len, range_with_len}
 

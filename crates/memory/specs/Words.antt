@@ -1,4 +1,4 @@
--- What core and joined memory mean. Assumes nothing.
+-- What core and joined memory mean.
 use Rattle.std.specs.Prelude.{ℕ, ◌*◌, ◌/◌, min, List, ◌++◌, length, take, drop}
 
 -- how many of n words are in whole blocks of 8192, eight blocks at most

@@ -1,4 +1,4 @@
-// Core memory: the caller's own 16-bit words.
+//! Core memory: the caller's own 16-bit words.
 ghost use Rattle.std.specs.Prelude.{◌≡◌};
 ghost use Rattle.memory.specs.Outer.{outer_row};
 ghost use Rattle.memory.specs.Sizes.{front_sized};
@@ -9,12 +9,14 @@ use crate::Memory;
 // The words of a block.
 const BLOCK: usize = 8192;
 
+/// The caller's words, of which the whole blocks at the front are memory, eight at most.
 #[derive(Drop)]
 pub struct Core<'a> {
     words: &'a mut [u16],
 }
 
 impl<'a> Core<'a> {
+    /// Memory over words.
     pub fn new(words: &'a mut [u16]) -> Core<'a>
         ensures value { result.words.now ≡ words.old }
         ensures named { result.words.ghost_name ≡ words.entry.ghost_name }
@@ -22,6 +24,7 @@ impl<'a> Core<'a> {
         Core { words }
     }
 
+    /// The words back, and the end of the memory.
     pub fn into_words(self) -> &'a mut [u16]
         ensures value { result.now ≡ self.entry.words.now }
         ensures named { result.ghost_name ≡ self.entry.words.ghost_name }

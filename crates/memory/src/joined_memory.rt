@@ -1,4 +1,4 @@
-// Two memories as one: the first's addresses, then the second's.
+//! Two memories as one: the first's addresses, then the second's.
 ghost use Rattle.std.specs.Prelude.{◌≡◌};
 ghost use Rattle.memory.specs.Outer.{outer_pair};
 ghost use Rattle.memory.specs.Sizes.{joint_sized};
@@ -9,6 +9,7 @@ use crate::Memory;
 // How many addresses there are of 16 bits.
 const ADDRESSES: u32 = 65536;
 
+/// Two memories as one.
 #[derive(Drop)]
 pub struct Joined<A, B> {
     first: A,
@@ -16,6 +17,7 @@ pub struct Joined<A, B> {
 }
 
 impl<A: Memory, B: Memory> Joined<A, B> {
+    /// The addresses of the first memory, then those of the second, cut at 65,536.
     pub fn new(first: A, second: B) -> Joined<A, B>
         ensures first { result.first ≡ first }
         ensures second { result.second ≡ second }
@@ -23,6 +25,7 @@ impl<A: Memory, B: Memory> Joined<A, B> {
         Joined { first, second }
     }
 
+    /// The two memories back.
     pub fn into_parts(self) -> (A, B)
         ensures value { result ≡ (self.first, self.second) }
     {

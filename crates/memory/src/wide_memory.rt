@@ -1,4 +1,4 @@
-// Adaptor memory: 16-bit words in the caller's 32-bit words, by a plan.
+//! Adaptor memory: 16-bit words in the caller's 32-bit words, by a plan.
 ghost use Rattle.std.specs.Prelude.{◌≡◌, ◌<◌, ◌↔◌, length, IsSome, IfSome};
 ghost use Rattle.memory.specs.Outer.{outer_wide};
 ghost use Rattle.memory.specs.Sizes.{adapted_sized};
@@ -13,6 +13,7 @@ const BLOCK: u16 = 8192;
 // The 32-bit words of a portion, which hold a block.
 const PORTION: usize = 4096;
 
+/// The caller's 32-bit words, each of two 16-bit words, as memory by a plan.
 // The plan is lent with a lifetime of its own, so that it stays while the memory lives.
 #[derive(Drop)]
 pub struct Adaptor<'a, 'b> {
@@ -53,6 +54,7 @@ fn with_half(wide: u32, address: u16, word: u16) -> u32
 }
 
 impl<'a, 'b> Adaptor<'a, 'b> {
+    /// Memory over words, by a plan that it keeps to.
     pub fn new(words: &'a mut [u32], plan: &'b Plan) -> Adaptor<'a, 'b>
         ensures value { result.words.now ≡ words.old }
         ensures named { result.words.ghost_name ≡ words.entry.ghost_name }
@@ -61,6 +63,7 @@ impl<'a, 'b> Adaptor<'a, 'b> {
         Adaptor { words, plan }
     }
 
+    /// The words back, and the end of the memory.
     pub fn into_words(self) -> &'a mut [u32]
         ensures value { result.now ≡ self.entry.words.now }
         ensures named { result.ghost_name ≡ self.entry.words.ghost_name }

@@ -1,4 +1,4 @@
--- The size of a memory of one block. Assumes nothing.
+-- The size of a memory of one block.
 use Rattle.std.specs.Prelude.{◌≡◌, ℕ, List, length}
 use Rattle.std.proofs.Common.{arith}
 use Rattle.memory.specs.Sizes.{Sized}

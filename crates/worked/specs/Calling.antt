@@ -18,6 +18,7 @@ use Rattle.worked.specs.Settings.{free, guarded, level, machine, only, panel, re
 
 -- A NEW PROCESSOR
 
+-- what a new processor holds, and what going changes
 pub record Begins : Type 0 where
   -- a new processor is all zero, with level 0 armed and enabled and the others disarmed and disabled
   pub registers : panel initial.work ≡ 0 ∷ 0 ∷ 0 ∷ 0 ∷ 0 ∷ 0 ∷ 0 ∷ 0 ∷ 0 ∷ []
@@ -71,6 +72,7 @@ third s = machine true true Unset (registers_of 4 7 true true) (guarded false fa
 abbrev pub ready : Machine
 ready = machine true true Unset (registers_of 4 7 true true) (guarded false false (only 3 (level Armed true))) (words_with ((0x0300, 0x8010) ∷ (0x0103, 0x0310) ∷ []))
 
+-- what lists of calls answer and leave
 pub record Called : Type 0 where
   -- a run counts each kind of step apart
   pub run : answer (Run 7) busy ≡ Ran (counts 2 1 1 0 1 2)

@@ -41,6 +41,7 @@ pub record Gives (v : Work) (a : ℕ) (o c : Bool) : Type 0 where
   pub o_is : v.o ≡ o
   pub c_is : v.c ≡ c
 
+-- what an instruction leaves in A, O, C and X1, and what a plan and a run answer
 pub record Cases : Type 0 where
   -- a copy of A inverted, by OR into a cleared A
   pub inverted : (after 0x74ff 0 0x1234).a ≡ 0xedcb

@@ -52,6 +52,7 @@ mixed = level Active true ∷ level Waiting false ∷ level Armed true ∷ level
 abbrev pub unlisted : ℕ → List ℕ
 unlisted x1 = 0x0301 ∷ 2 ∷ 3 ∷ x1 ∷ 5 ∷ 0x8006 ∷ 0x7ff2 ∷ 1 ∷ 1 ∷ []
 
+-- what RD and WD do in each mode and function
 pub record Functions : Type 0 where
   -- RD of registers 0 to 7: Z is 0 and P the next instruction's address
   pub registers : map (λ (n : ℕ). loaded (0x1000 + n)) (range_with_len 0 8) ≡ 0 ∷ 0x0301 ∷ 2 ∷ 3 ∷ 4 ∷ 5 ∷ 0x8006 ∷ 0x7ff2 ∷ []
@@ -112,6 +113,7 @@ pub record Functions : Type 0 where
 abbrev pub named : ℕ
 named = 0xd001
 
+-- what WD makes of the levels, and RD shows of them
 pub record Controls : Type 0 where
   -- disarm, of levels that are armed and enabled
   pub disarm : write_levels 0x0200 named (replicate 16 (level Armed true))

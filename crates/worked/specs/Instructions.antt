@@ -27,6 +27,7 @@ pointers = words_with ((0x0012, 0x0040) ∷ (0x0032, 0x0060) ∷ (0x0042, 0x0050
 abbrev pub address_of : ℕ → ℕ
 address_of w = effective 0x0200 indexed pointers w
 
+-- what the fields of an instruction word make of the effective address
 pub record Addresses : Type 0 where
   -- D alone
   pub direct : address_of 0x8012 ≡ 0x0012
@@ -79,6 +80,7 @@ outcome_of w = (step (free (registers_of 4 0x7123 true true) w [])).outcome
 abbrev pub last_after : ℕ → ℕ
 last_after w = (stepped (free (registers_of 4 0x7123 true true) w [])).cpu.last
 
+-- what each code leaves in the registers and in memory
 pub record Instructions : Type 0 where
   -- LDA loads A and leaves all else but P
   pub lda : with_word 0x8010 7 0x1234 ≡ 0x0301 ∷ 2 ∷ 3 ∷ 4 ∷ 5 ∷ 0x8006 ∷ 0x1234 ∷ 1 ∷ 1 ∷ []
@@ -141,6 +143,7 @@ pub record Instructions : Type 0 where
 abbrev pub branch : ℕ → ℕ → ℕ → Bool → Bool → List ℕ
 branch n x1 a o c = let v : Work = (stepped (free (registers_of x1 a o c) (0x6020 + n * 0x0200) [])).cpu.work in v.p ∷ v.x1 ∷ []
 
+-- when each branch goes, and where
 pub record Branches : Type 0 where
   -- BNO branches where O is 0
   pub bno : branch 0 4 7 false true ≡ 0x0320 ∷ 4 ∷ []
@@ -181,6 +184,7 @@ copy w c = shown (free (registers_of 4 0x7ff2 true c) w [])
 abbrev pub e_after : ℕ → Bool → ℕ
 e_after w c = (stepped (free (registers_of 4 0x7ff2 true c) w [])).cpu.work.e
 
+-- what copies leave
 pub record Copies : Type 0 where
   -- AND, OR and exclusive OR of A into E leave O and C
   pub and : copy 0x7067 true ≡ 0x0301 ∷ 2 ∷ 3 ∷ 4 ∷ 5 ∷ 0x0002 ∷ 0x7ff2 ∷ 1 ∷ 1 ∷ []

@@ -26,6 +26,7 @@ alone ii ei k = due Unset (guarded ii ei (only k (level Waiting true)))
 abbrev pub two : ℕ → Level → ℕ → Level → List Level
 two j l k r = slice_set (only j l) k r
 
+-- which level enters
 pub record Levels : Type 0 where
   -- disarm: armed and waiting become disarmed
   pub disarm : row Disarm ≡ Disarmed ∷ Disarmed ∷ Disarmed ∷ Active ∷ []
@@ -73,6 +74,7 @@ pub record Levels : Type 0 where
 abbrev pub interrupted : Mark → ℕ → Machine
 interrupted mark q = machine true false mark (registers_of 4 7 true false) (guarded false true (only 3 (level Waiting true))) (words_with ((0x0103, q) ∷ (0x0300, 0x8010) ∷ []))
 
+-- what an entry stores and leaves
 pub record Entries : Type 0 where
   -- the step is the entry of level 3
   pub entered : (step (interrupted Unset 0x0310)).outcome ≡ Entered 3
@@ -120,6 +122,7 @@ left = slice_set (two 3 (level Armed true) 9 (level Active true)) 5 (level Waiti
 abbrev pub exit_of : Bool → List Level → List Level
 exit_of ii ls = (stepped (machine false true Exit (registers_of 4 7 false false) (guarded ii false ls) (words_with ((0x0300, 0xc020) ∷ [])))).cpu.guard.levels
 
+-- what an exit loads and leaves
 pub record Exits : Type 0 where
   -- P, O and C are loaded, and X1 is not
   pub o_and_p : shown (leaving true Exit 0x0002 0x0123) ≡ 0x0123 ∷ 2 ∷ 3 ∷ 4 ∷ 5 ∷ 6 ∷ 7 ∷ 1 ∷ 0 ∷ []

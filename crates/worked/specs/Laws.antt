@@ -20,6 +20,7 @@ pub record MayEnter (ii ei : Bool) (ls : List Level) (k : ℕ) : Type 0 where
   pub free : inhibited ii ei k ≡ false
   pub unblocked : (j : ℕ) → j < k → (inhibited ii ei j ≡ true) ⊎ (is_active (level_at ls j).state ≡ false)
 
+-- what holds of every machine, whatever it is
 pub record Laws : Type 0 where
   -- the level that enters is the lowest of levels 0 to 15 that may
   pub enters : (ii ei : Bool) (ls : List Level) (k : ℕ) → lowest 16 0 ii ei ls ≡ Some k → MayEnter ii ei ls k × ((j : ℕ) → j < k → MayEnter ii ei ls j → ⊥)

@@ -11,6 +11,7 @@ use Rattle.memory.specs.Words.{whole}
 abbrev pub new_plan : List ℕ
 new_plan = range_with_len 0 8
 
+-- what changes of a plan answer and leave
 pub record Plans : Type 0 where
   -- a block may be given the portion that it has
   pub own : set_answer new_plan 3 3 ≡ Ok tt
@@ -33,7 +34,7 @@ pub record Plans : Type 0 where
   pub right_half : half 0x12345678 0x2005 ≡ 0x5678
   pub left_merged : merged 0x12345678 0x2004 0xabcd ≡ 0xabcd5678
   pub right_merged : merged 0x12345678 0x2005 0xabcd ≡ 0x1234abcd
-  -- an address of block 1, whose portion is 9, lies in the ninth 4096 words
+  -- an address of block 1, whose portion is 9, lies in the tenth 4,096 words
   pub placed : place (slice_set new_plan 1 9) 0x2005 ≡ 9 * 4096 + 2
   -- the size ends before the first portion that does not fit, also where later ones would
   pub leading : lead new_plan 12288 ≡ 3

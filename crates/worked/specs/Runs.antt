@@ -25,6 +25,7 @@ pub record SignalledTo (k : ℕ) (m t : Machine) : Type 0 where
   pub switch : t.cpu.switch ≡ m.cpu.switch
   pub words : t.words ≡ m.words
 
+-- what holds of every run and signal
 pub record Runs : Type 0 where
   -- the steps of moves, one after the other: the later ones start from the machine that the earlier ones leave
   pub moves : (ms ns : List Move) (m : Machine) → trail m (ms ++ ns) ≡ trail m ms ++ trail (end m ms) ns

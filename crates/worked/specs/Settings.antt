@@ -22,7 +22,8 @@ registers_of x1 a o c = record { p = 0x0300; l = 2; t = 3; x1 = x1; x2 = 5; e = 
 abbrev pub zeros : ℕ → Work
 zeros p = record { p = p; l = 0; t = 0; x1 = 0; x2 = 0; e = 0; a = 0; o = false; c = false }
 
--- 0x0320 words, all 0 but those of the pairs of an address and a word
+-- 0x0320 words, all 0 but those of the pairs of an address and a word: fewer than a memory has, since the meaning is of any number of
+-- words and the cases are computed
 abbrev pub words_with : List (ℕ × ℕ) → List ℕ
 words_with [] = replicate 0x0320 0
 words_with (x ∷ xs) = slice_set (words_with xs) x.0 x.1

@@ -83,6 +83,7 @@ ComesTo (Stalled x) m t = Fails x m t
 ComesTo NotCarried m t = Passes m t
 ComesTo Done m t = Executes m t
 
+-- what holds of every step
 pub record Steps : Type 0 where
   pub kept : (m : Machine) → Kept m (step m).after
   pub comes_to : (m : Machine) → ComesTo (step m).outcome m (step m).after

@@ -45,6 +45,7 @@ storing pp mark ls = machine true pp mark (registers_of 0x0100 7 true false) (gu
 abbrev pub jumping : List Level → Machine
 jumping ls = machine true false Exit (zeros 0x0200) (guarded false false ls) (words_with ((0x0200, 0x8010) ∷ []))
 
+-- which instructions are violations
 pub record Judged : Type 0 where
   -- the bit of a page: page 2 is bit 2 of register 0, page 31 bit 15 of register 1, page 255 bit 15 of register 15
   pub pages : map (protects (guarded false false []).protection) (0x01ff ∷ 0x0200 ∷ 0x02ff ∷ 0x0300 ∷ 0x1eff ∷ 0x1f00 ∷ 0x1fff ∷ 0x2000 ∷ 0xffff ∷ 0xfb00 ∷ [])
@@ -91,6 +92,7 @@ pub record Judged : Type 0 where
   -- a fetch of the background from a protected page
   pub entry : (step (jumping resting)).outcome ≡ Violated entry_at
 
+-- what a violation and a stall leave
 pub record Violations : Type 0 where
   -- the instruction has no effect on registers and words
   pub registers : shown (storing false Unset resting) ≡ 0x0300 ∷ 2 ∷ 3 ∷ 0x0100 ∷ 5 ∷ 0x8006 ∷ 7 ∷ 1 ∷ 0 ∷ []
@@ -122,6 +124,7 @@ pub record Violations : Type 0 where
   -- another active level makes no stall
   pub no_stall : (step (storing false Unset (only 1 (level Active true)))).outcome ≡ Violated (store_at 0x0200)
 
+-- what a fetch makes of PP and of the marks
 pub record Fetches : Type 0 where
   -- with the switch on PP becomes the bit of P's page
   pub to_background : (stepped (machine true true Unset (zeros 0x0300) (guarded false false resting) (words_with []))).cpu.pp ≡ false

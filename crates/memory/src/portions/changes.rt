@@ -1,4 +1,4 @@
-// What makes, reads and changes a plan.
+//! What makes, reads and changes a plan.
 ghost use Rattle.std.specs.Prelude.{◌≡◌, ◌<◌, slice_index};
 ghost use Rattle.std.specs.List.{range_with_len};
 ghost use Rattle.memory.specs.Changes.{held_below, set_answer, set_after, exchange_answer, exchange_after};
@@ -7,6 +7,7 @@ use super::Plan;
 use crate::refusals::PlanRefusal;
 
 impl Plan {
+    /// Block b has portion b.
     pub fn new() -> Plan
         ensures { result.portions ≡ range_with_len 0 8 }
     {
@@ -15,6 +16,7 @@ impl Plan {
         }
     }
 
+    /// The portions of blocks 0 to 7.
     pub fn portions(&self) -> [u8; 8]
         ensures { result ≡ self.now.portions }
     {
@@ -22,6 +24,7 @@ impl Plan {
         portions
     }
 
+    /// The portion of a block.
     pub(crate) fn portion(&self, block: u8) -> u8
         requires { block < 8 }
         ensures { result ≡ slice_index self.now.portions block }
@@ -37,6 +40,7 @@ impl Plan {
             && *theirs == portion)
     }
 
+    /// Gives a block a portion.
     pub fn set(&mut self, block: u8, portion: u8) -> Result<(), PlanRefusal>
         ensures answer { result ≡ set_answer self.old.portions block portion }
         ensures after { self.new.portions ≡ set_after self.old.portions block portion }
@@ -54,7 +58,8 @@ impl Plan {
         Ok(())
     }
 
-    // Two blocks change portions in one call, since each portion is held until then.
+    /// Exchanges the portions of two blocks.
+    // This is one call, since each portion is held until then.
     pub fn exchange(&mut self, first: u8, second: u8) -> Result<(), PlanRefusal>
         ensures answer { result ≡ exchange_answer first second }
         ensures after { self.new.portions ≡ exchange_after self.old.portions first second }

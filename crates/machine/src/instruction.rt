@@ -115,6 +115,7 @@ pub enum Instruction {
 const ADDRESSED: u16 = 0b1101_1111_0001_0011;
 
 /// Whether the code of an instruction word has an effective address.
+#[tactic(auto, using(crate::proofs::Masks::masked))]
 pub fn addresses(word: u16) -> bool
     ensures { result ≡ has_address word }
 {

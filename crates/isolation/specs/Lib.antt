@@ -1,3 +1,4 @@
 pub mod Steps
 pub mod Isolation
+pub mod Wider
 pub mod Examples

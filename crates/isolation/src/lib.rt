@@ -4,11 +4,14 @@
 ghost use Rattle.std.specs.Prelude.{◌≡◌, true};
 ghost use Rattle.isolation.specs.Examples.{Agrees, Stalls, Violates};
 ghost use Rattle.isolation.specs.Isolation.{Isolation};
+ghost use Rattle.isolation.specs.Wider.{Wider};
 
-/// The law holds of every machine that is set going with the protect switch on; closed examples meet its premises.
+/// The law holds of every machine that is set going with the protect switch on; closed examples meet its premises. With fewer
+/// premises it holds of every machine.
 pub fn isolation_stands() -> bool
     ensures answer { result ≡ true }
     ensures law { Isolation }
+    ensures wider { Wider }
     ensures violates { Violates }
     ensures agrees { Agrees }
     ensures stalls { Stalls }

@@ -68,7 +68,7 @@ module _ (G : Moment → Type 0) (m : Machine)
 -- what a background step leaves, whether it is allowed or not
 pub record Tame (m : Machine) (o : Outcome) (t : Machine) : Type 0 where
   pub no_entry : Enters o → ⊥
-  pub pp : t.cpu.pp ≡ false
+  pub away : (t.cpu.pp ≡ false) ⊎ (t.cpu.mark ≡ Wait)
   pub exit : exit_marked t.cpu.mark ≡ false
   pub words : SameWords m.cpu.guard.protection m t
   pub protection : t.cpu.guard.protection ≡ m.cpu.guard.protection
@@ -80,7 +80,7 @@ pub record Tame (m : Machine) (o : Outcome) (t : Machine) : Type 0 where
 tame_work : (m : Machine) (o : Outcome) (v : Work) → (Enters o → ⊥) → Tame m o (on_work (λ _. v) (fetched false m))
 tame_work m o v n = record {
   no_entry = n;
-  pp = refl;
+  away = inl refl;
   exit = refl;
   words = λ a l. refl;
   protection = refl;
@@ -93,7 +93,7 @@ tame_work m o v n = record {
 tame_store : (m : Machine) (a w : ℕ) (v : Work) → protects m.cpu.guard.protection a ≡ false → Tame m Done (store a w (on_work (λ _. v) (fetched false m)))
 tame_store m a w v e = record {
   no_entry = λ x. x;
-  pp = refl;
+  away = inl refl;
   exit = refl;
   words = λ b l. get_or-set_other m.words a b w 0 (λ same. both_ways (protects m.cpu.guard.protection b) (rw (← same) at e) l);
   protection = refl;
@@ -143,7 +143,7 @@ violated_levels x ls s e = inr (tt, ap (λ s. set ls 0 (record { state = next_st
 tame_violate : (m : Machine) (x : Violation) → Tame m (violation (stalls m.cpu) x) (violate false x m)
 tame_violate m x = record {
   no_entry = no_entry (stalls m.cpu) x;
-  pp = refl;
+  away = inl refl;
   exit = stall_exit (stalls m.cpu);
   words = λ a l. refl;
   protection = refl;

@@ -1,5 +1,5 @@
 -- No premise can go, worked out.
-use Rattle.std.proofs.Common.{◌≡◌, ℕ, ◌-◌, ◌/◌, ◌%◌, ◌^◌, true, eqb, List, [], ◌∷◌, sym, refl, ap, ◌∙◌}
+use Rattle.std.proofs.Common.{◌≡◌, ℕ, ◌-◌, ◌/◌, ◌%◌, ◌^◌, true, eqb, List, [], ◌∷◌, sym, refl, ap, ◌∙◌, inl}
 use native.Mathlib.Nat.{zero-div}
 use Rattle.std.proofs.lemmas.Bool.{eqb-false, false≢true}
 use Rattle.levels.specs.declared.level.Level.{Level}
@@ -18,70 +18,70 @@ guard = record {
   contained = λ h. eqb-false 7 0 refl ((h.0 (λ x. x, λ x. refl)).0.words 0x0100 refl);
   held = λ h. false≢true (sym (h [] [] [] _ _ refl (λ x. x, λ x. refl) tt tt));
   entry_switch = record {
-    here = record { switch = refl; pp = refl };
-    there = record { switch = refl; pp = refl };
+    here = record { switch = refl; away = inl refl };
+    there = record { switch = refl; away = inl refl };
     levels = record { ii = refl; ei = refl; levels = refl; exit = refl };
     protected = record { protection = refl; words = λ a e. refl };
     one = λ h. (h 2 3 2 (λ x. x, (λ x. x, (refl, refl))) (λ x. x, (λ x. x, tt)) (λ x. x, (λ x. x, tt))).1.1.0 tt;
     other = λ h. let e = (h 1 9 2 (λ x. x, (refl, refl)) (λ x. x, tt) (λ x. x, tt)).1.1.0 in absurd cc;
   };
   entry_pp = record {
-    here = record { switch = refl; pp = refl };
-    there = record { switch = refl; pp = refl };
+    here = record { switch = refl; away = inl refl };
+    there = record { switch = refl; away = inl refl };
     levels = record { ii = refl; ei = refl; levels = refl; exit = refl };
     protected = record { protection = refl; words = λ a e. refl };
     one = λ h. (h 2 3 2 (λ x. x, (λ x. x, (refl, refl))) (λ x. x, (λ x. x, tt)) (λ x. x, (λ x. x, tt))).1.1.0 tt;
     other = λ h. let e = (h 1 9 2 (λ x. x, (refl, refl)) (λ x. x, tt) (λ x. x, tt)).1.1.0 in absurd cc;
   };
   word_switch = record {
-    here = record { switch = refl; pp = refl };
-    there = record { switch = refl; pp = refl };
+    here = record { switch = refl; away = inl refl };
+    there = record { switch = refl; away = inl refl };
     levels = record { ii = refl; ei = refl; levels = refl; exit = refl };
     protected = record { protection = refl; words = λ a e. refl };
     one = λ h. eqb-false 0 7 refl (h 0x0100 refl);
     other = λ h. eqb-false 7 0 refl (h 0x0100 refl);
   };
   word_pp = record {
-    here = record { switch = refl; pp = refl };
-    there = record { switch = refl; pp = refl };
+    here = record { switch = refl; away = inl refl };
+    there = record { switch = refl; away = inl refl };
     levels = record { ii = refl; ei = refl; levels = refl; exit = refl };
     protected = record { protection = refl; words = λ a e. refl };
     one = λ h. eqb-false 0 7 refl (h 1 refl);
     other = λ h. eqb-false 7 0 refl (h 1 refl);
   };
-  first_pp = (record { switch = refl; pp = refl }, λ e. false≢true (sym e));
+  first_pp = (record { switch = refl; away = inl refl }, λ e. false≢true (sym e));
   last_pp = λ e. false≢true (sym e);
 }
 
 pub entries : EntriesNeed
 unfolding machine page_1 armed waiting cell_3 stores_cell stores_page_1 quiet urgent step instruction lowest
 entries = record {
-  ii = ((record { switch = refl; pp = refl }, record { switch = refl; pp = refl }), λ h. let e = (h 0 3 2 (refl, refl) tt tt).1.0 in absurd cc);
-  ei = ((record { switch = refl; pp = refl }, record { switch = refl; pp = refl }), λ h. let e = (h 0 9 2 (refl, refl) tt tt).1.0 in absurd cc);
-  levels = ((record { switch = refl; pp = refl }, record { switch = refl; pp = refl }), λ h. let e = (h 0 3 2 (refl, refl) tt tt).1.0 in absurd cc);
-  exit = ((record { switch = refl; pp = refl }, record { switch = refl; pp = refl }), λ h. let e = (h 0 3 2 (refl, refl) tt tt).1.0 in absurd cc);
+  ii = ((record { switch = refl; away = inl refl }, record { switch = refl; away = inl refl }), λ h. let e = (h 0 3 2 (refl, refl) tt tt).1.0 in absurd cc);
+  ei = ((record { switch = refl; away = inl refl }, record { switch = refl; away = inl refl }), λ h. let e = (h 0 9 2 (refl, refl) tt tt).1.0 in absurd cc);
+  levels = ((record { switch = refl; away = inl refl }, record { switch = refl; away = inl refl }), λ h. let e = (h 0 3 2 (refl, refl) tt tt).1.0 in absurd cc);
+  exit = ((record { switch = refl; away = inl refl }, record { switch = refl; away = inl refl }), λ h. let e = (h 0 3 2 (refl, refl) tt tt).1.0 in absurd cc);
   enters = λ h. let e = (h 0 3 tt).1.0 in absurd cc;
   clean_here = (
-    (record { switch = refl; pp = refl }, record { switch = refl; pp = refl }),
+    (record { switch = refl; away = inl refl }, record { switch = refl; away = inl refl }),
     record { ii = refl; ei = refl; levels = refl; exit = refl },
     λ h. let e = (h 1 0 2 (λ x. x, (refl, refl)) (λ x. x, tt)).1.1.0 in absurd cc,
   );
   clean_there = (
-    (record { switch = refl; pp = refl }, record { switch = refl; pp = refl }),
+    (record { switch = refl; away = inl refl }, record { switch = refl; away = inl refl }),
     record { ii = refl; ei = refl; levels = refl; exit = refl },
     λ h. let e = (h 1 3 2 (λ x. x, (refl, refl)) (λ x. x, tt)).1.1.0 in absurd cc,
   );
   page = (
-    (record { switch = refl; pp = refl }, record { switch = refl; pp = refl }),
+    (record { switch = refl; away = inl refl }, record { switch = refl; away = inl refl }),
     record { protection = refl; words = λ a e. absurd (nothing_protected a e) },
     λ h. let x = h 0 3 2 (refl, refl) tt tt in eqb-false 0x0202 2 refl (x.1.1 ∙ x.2 tt),
   );
   words = (
-    (record { switch = refl; pp = refl }, record { switch = refl; pp = refl }),
+    (record { switch = refl; away = inl refl }, record { switch = refl; away = inl refl }),
     λ h. let x = h 0 3 2 (refl, refl) tt tt in eqb-false 0x0202 2 refl (x.1.1 ∙ x.2 tt),
   );
   protection = (
-    (record { switch = refl; pp = refl }, record { switch = refl; pp = refl }),
+    (record { switch = refl; away = inl refl }, record { switch = refl; away = inl refl }),
     record { ii = refl; ei = refl; levels = refl; exit = refl },
     λ h. let x = h 1 3 2 (λ x. x, (refl, refl)) (λ x. x, tt) (λ x. x, tt) in eqb-false 9 2 refl (x.1.1.1 ∙ x.2 tt),
   );
@@ -90,21 +90,21 @@ entries = record {
 pub words : WordsNeed
 unfolding machine page_0 page_1 armed waiting stores_1 quiet urgent step instruction lowest
 words = record {
-  protection = ((record { switch = refl; pp = refl }, record { switch = refl; pp = refl }), λ h. eqb-false 7 0 refl (h 1 refl));
-  words = ((record { switch = refl; pp = refl }, record { switch = refl; pp = refl }), λ h. eqb-false 7 0 refl (h 0 refl));
+  protection = ((record { switch = refl; away = inl refl }, record { switch = refl; away = inl refl }), λ h. eqb-false 7 0 refl (h 1 refl));
+  words = ((record { switch = refl; away = inl refl }, record { switch = refl; away = inl refl }), λ h. eqb-false 7 0 refl (h 0 refl));
   protected = (
-    (record { switch = refl; pp = refl }, record { switch = refl; pp = refl }),
+    (record { switch = refl; away = inl refl }, record { switch = refl; away = inl refl }),
     record { protection = refl; words = λ a e. refl },
     eqb-false 0 7 refl,
   );
   entry_here = (
-    (record { switch = refl; pp = refl }, record { switch = refl; pp = refl }),
+    (record { switch = refl; away = inl refl }, record { switch = refl; away = inl refl }),
     record { protection = refl; words = λ a e. refl },
     (λ x. x, tt),
     λ h. eqb-false 0 0x0200 refl (h 1 refl),
   );
   entry_there = (
-    (record { switch = refl; pp = refl }, record { switch = refl; pp = refl }),
+    (record { switch = refl; away = inl refl }, record { switch = refl; away = inl refl }),
     record { protection = refl; words = λ a e. refl },
     (λ x. x, tt),
     λ h. eqb-false 0x0200 0 refl (h 1 refl),

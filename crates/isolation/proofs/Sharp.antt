@@ -113,7 +113,7 @@ wider = record {
   contained = λ h m on cs x a e r. let b = at_step _ _ x a (h.contained m on cs) (e, r) in (keeps x b.0, b.1);
   held = λ h m on cs xs ys zs x z q e r n s l. both_ways _ (h.held m on cs xs ys zs x z q (e, r) n s) l;
   by_cell = λ h m cs x a. at_step _ _ x a (h.by_cell m cs);
-  guarded = λ m on p. record { switch = on; pp = p };
+  guarded = λ m on a. record { switch = on; away = a };
   levels = λ m t i j l e f. record { ii = i; ei = j; levels = l; exit = unexited m.cpu.mark e ∙ sym (unexited t.cpu.mark f) };
   protected = λ m t p w. record { protection = p; words = w };
   cells = λ m t c l. (c, l);

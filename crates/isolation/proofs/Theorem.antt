@@ -86,10 +86,14 @@ fault (Violated x) h = h
 fault (Stalled x) h = absurd h
 fault o h = h
 
--- a step that is no violation leaves the levels
-still : {A B : Type 0} → A ⊎ B → (B → ⊥) → A
-still (inl a) f = a
-still (inr b) f = absurd (f b)
+-- what is left of two where one cannot be
+first : {A B : Type 0} → A ⊎ B → (B → ⊥) → A
+first (inl a) f = a
+first (inr b) f = absurd (f b)
+
+other : {A B : Type 0} → A ⊎ B → (A → ⊥) → B
+other (inl a) f = absurd (f a)
+other (inr b) f = b
 
 step_contained : (m : Machine) → m.cpu.switch ≡ true → Contained (step m)
 step_contained m on =
@@ -105,39 +109,53 @@ step_contained m on =
         ei = h.ei;
         levels = ⊎_elim inl (λ v. inr (fault o v.0, v.1)) h.levels;
       },
-      λ n. still h.levels (λ v. n v.0),
+      λ n. first h.levels (λ v. n v.0),
     ))
 
 -- (b)
--- behind the protection: PP is 0, or the machine is idle
-pub record Behind (m : Machine) : Type 0 where
-  pub on : m.cpu.switch ≡ true
-  pub back : (m.cpu.pp ≡ false) ⊎ (m.cpu.mark ≡ Wait)
-
--- a step from m that leads there or stays there
-pub record Onward (m : Machine) (x : Moment) : Type 0 where
-  pub runs : Executes x.outcome → PProtected x.before ≡ false
-  pub back : (x.after.cpu.pp ≡ false) ⊎ (x.after.cpu.mark ≡ Wait)
-
-behind_after : (m : Machine) → m.cpu.switch ≡ true → NotForeground (step m) → Behind (step m).after
-behind_after m on b = record { on = step_switch m ∙ on; back = back b }
+-- a step that is not of the foreground leaves the machine away from it
+guarded_after : (m : Machine) → m.cpu.switch ≡ true → NotForeground (step m) → Guarded (step m).after
+guarded_after m on b = record { switch = step_switch m ∙ on; away = away b }
   where
-    back : NotForeground (step m) → ((step m).after.cpu.pp ≡ false) ⊎ ((step m).after.cpu.mark ≡ Wait)
-    back =
+    away : NotForeground (step m) → ((step m).after.cpu.pp ≡ false) ⊎ ((step m).after.cpu.mark ≡ Wait)
+    away =
         step_cases (λ x. NotForeground x → (x.after.cpu.pp ≡ false) ⊎ (x.after.cpu.mark ≡ Wait)) m on
         (λ k d b. absurd (b.0 tt))
         (λ w b. inr w)
         (λ w p l b. absurd (both_ways (PProtected m) (b.1 (executes (class (instruction m)))) l))
-        (λ o t h r b. inl h.pp)
+        (λ o t h r b. h.away)
 
--- a step from there is an entry, or it is not of the foreground
-behind_step : (m : Machine) → Behind m → Enters (step m).outcome ⊎ NotForeground (step m)
-behind_step m h =
-    step_cases (λ x. Enters x.outcome ⊎ NotForeground x) m h.on
+-- and a step from there is an entry, or leaves what a background step does, and is none of the foreground
+tame_step : (m : Machine) → Guarded m → Enters (step m).outcome ⊎ (Tame m (step m).outcome (step m).after × NotForeground (step m))
+tame_step m h =
+    step_cases (λ x. Enters x.outcome ⊎ (Tame m x.outcome x.after × NotForeground x)) m h.switch
     (λ k d. inl tt)
-    (λ w. inr (λ e. e, λ r. absurd r))
-    (λ w p l. absurd (⊎_elim (λ e. both_ways m.cpu.pp e p) w h.back))
-    (λ o t k r. inr (k.no_entry, r))
+    (λ w.
+    inr (
+      record {
+        no_entry = λ e. e;
+        away = inr w;
+        exit = ap exit_marked w;
+        words = λ a l. refl;
+        protection = refl;
+        ii = refl;
+        ei = refl;
+        levels = inl refl;
+      },
+      (λ e. e, λ r. absurd r),
+    ))
+    (λ w p l. absurd (⊎_elim (λ e. both_ways m.cpu.pp e p) w h.away))
+    (λ o t k r. inr (k, (k.no_entry, r)))
+
+-- a step from there that is no entry
+tame : (m : Machine) → Guarded m → (Enters (step m).outcome → ⊥) → Tame m (step m).outcome (step m).after
+tame m h n = (other (tame_step m h) n).0
+
+guarded_step : (m : Machine) → Guarded m → (Enters (step m).outcome → ⊥) → Guarded (step m).after
+guarded_step m h n = guarded_after m h.switch (other (tame_step m h) n).1
+
+guarded_poked : (k : ℕ) (m : Machine) → Guarded m → Guarded (poked k m)
+guarded_poked k m h = record { switch = h.switch; away = h.away }
 
 -- OVER A LIST OF MOVES
 
@@ -165,18 +183,19 @@ abbrev HeldAfter : List Moment → Type 0
 HeldAfter [] = Unit {0}
 HeldAfter (x ∷ xs) = (NotForeground x → Held xs) × HeldAfter xs
 
-held : (ms : List Move) (m : Machine) → Behind m → Held (trail m ms)
+held : (ms : List Move) (m : Machine) → Guarded m → Held (trail m ms)
 held [] m h = tt
-held (tick ∷ ms) m h = go (held ms (step m).after) (behind_step m h)
+held (tick ∷ ms) m h = go (held ms (step m).after) (tame_step m h)
   where
-    go : (Behind (step m).after → Held (trail (step m).after ms)) → Enters (step m).outcome ⊎ NotForeground (step m) → Held (trail m (tick ∷ ms))
+    go : (Guarded (step m).after → Held (trail (step m).after ms)) → Enters (step m).outcome ⊎ (Tame m (step m).outcome (step m).after × NotForeground (step m))
+        → Held (trail m (tick ∷ ms))
     go rest (inl e) = inl e
-    go rest (inr b) = inr (b.1, rest (behind_after m h.on b))
-held (poke k ∷ ms) m h = held ms (poked k m) (record { on = h.on; back = h.back })
+    go rest (inr b) = inr (b.1.1, rest (guarded_after m h.switch b.1))
+held (poke k ∷ ms) m h = held ms (poked k m) (guarded_poked k m h)
 
 held_after : (ms : List Move) (m : Machine) → m.cpu.switch ≡ true → HeldAfter (trail m ms)
 held_after [] m on = tt
-held_after (tick ∷ ms) m on = (λ b. held ms (step m).after (behind_after m on b), held_after ms (step m).after (step_switch m ∙ on))
+held_after (tick ∷ ms) m on = (λ b. held ms (step m).after (guarded_after m on b), held_after ms (step m).after (step_switch m ∙ on))
 held_after (poke k ∷ ms) m on = held_after ms (poked k m) on
 
 -- the same by places
@@ -199,31 +218,6 @@ entry_needed : (all : List Moment) → HeldAfter all → EntryNeeded all
 entry_needed all h xs ys zs x z e b n r = held_until ys zs z (held_at xs (ys ++ (z ∷ zs)) x (subst HeldAfter e h) b) n r
 
 -- (c) TWO MACHINES
-
--- a step of the background that is no entry
-tame_step : (m : Machine) → Guarded m → (Enters (step m).outcome → ⊥) → Tame m (step m).outcome (step m).after
-tame_step m h =
-    step_cases (λ x. (Enters x.outcome → ⊥) → Tame m x.outcome x.after) m h.switch
-    (λ k d n. absurd (n tt))
-    (λ w n.
-    record {
-      no_entry = n;
-      pp = h.pp;
-      exit = ap exit_marked w;
-      words = λ a l. refl;
-      protection = refl;
-      ii = refl;
-      ei = refl;
-      levels = inl refl;
-    })
-    (λ w p l n. absurd (both_ways m.cpu.pp h.pp p))
-    (λ o t k r n. k)
-
-guarded_step : (m : Machine) → Guarded m → (Enters (step m).outcome → ⊥) → Guarded (step m).after
-guarded_step m h n = record { switch = step_switch m ∙ h.switch; pp = (tame_step m h n).pp }
-
-guarded_poked : (k : ℕ) (m : Machine) → Guarded m → Guarded (poked k m)
-guarded_poked k m h = record { switch = h.switch; pp = h.pp }
 
 -- two machines of which neither has entered: their protected words
 pub record Pair (ps : List ℕ) (m t : Machine) : Type 0 where
@@ -248,8 +242,8 @@ pair_poked ps k m t h = record {
 pair_step : (ps : List ℕ) (m t : Machine) → Pair ps m t → (Enters (step m).outcome → ⊥) → (Enters (step t).outcome → ⊥)
     → Pair ps (step m).after (step t).after
 pair_step ps m t h f g =
-    let x = tame_step m h.here f in
-    let y = tame_step t h.there g in
+    let x = tame m h.here f in
+    let y = tame t h.there g in
     record {
       here = guarded_step m h.here f;
       there = guarded_step t h.there g;
@@ -286,15 +280,15 @@ twin_poked k m t h = record {
 twin_step : (m t : Machine) → Twin m t → (Enters (step m).outcome → ⊥) → (Enters (step t).outcome → ⊥)
     → (IsViolation (step m).outcome → ⊥) → (IsViolation (step t).outcome → ⊥) → Twin (step m).after (step t).after
 twin_step m t h f g v w =
-    let x = tame_step m h.here f in
-    let y = tame_step t h.there g in
+    let x = tame m h.here f in
+    let y = tame t h.there g in
     record {
       here = guarded_step m h.here f;
       there = guarded_step t h.there g;
       alike = record {
         ii = x.ii ∙ h.alike.ii ∙ sym y.ii;
         ei = x.ei ∙ h.alike.ei ∙ sym y.ei;
-        levels = still x.levels (λ b. v b.0) ∙ h.alike.levels ∙ sym (still y.levels (λ b. w b.0));
+        levels = first x.levels (λ b. v b.0) ∙ h.alike.levels ∙ sym (first y.levels (λ b. w b.0));
         exit = x.exit ∙ sym y.exit;
       };
     }
@@ -481,8 +475,8 @@ isolation m h = record {
   indistinct = λ t g ms ts cs x y c.
       let m' = after_calls ms m in
       let t' = after_calls ts t in
-      let here : Guarded m' = record { switch = wider.switch m ms ∙ h.switch; pp = x.pp } in
-      let there : Guarded t' = record { switch = wider.switch t ts ∙ g.switch; pp = y.pp } in
+      let here : Guarded m' = record { switch = wider.switch m ms ∙ h.switch; away = inl x.pp } in
+      let there : Guarded t' = record { switch = wider.switch t ts ∙ g.switch; away = inl y.pp } in
       let levels : SameLevels m' t' =
       record { ii = c.ii; ei = c.ei; levels = c.levels; exit = ap exit_marked (x.mark ∙ sym y.mark) }
       in

@@ -95,7 +95,7 @@ EntersApart A cs m t = SameEntry A (steps_of cs m) (steps_of cs t) → ⊥
 abbrev pub WordsApart : List ℕ → Machine → Machine → Type 0
 WordsApart ps m t = SameWords ps (after_calls (Step ∷ []) m) (after_calls (Step ∷ []) t) → ⊥
 
--- two machines alike in their background, of which C fails in either order once f has changed the first
+-- two machines alike, not in their foreground, of which C fails in either order once f has changed the first
 pub record Spoilt (f : Machine → Machine) (C : Machine → Machine → Type 0) (m t : Machine) : Type 0 where
   pub here : Guarded m
   pub there : Guarded t
@@ -104,7 +104,7 @@ pub record Spoilt (f : Machine → Machine) (C : Machine → Machine → Type 0)
   pub one : C (f m) t
   pub other : C t (f m)
 
--- two machines in their background
+-- two machines not in their foreground
 abbrev pub Ready : Machine → Machine → Type 0
 Ready m t = Guarded m × Guarded t
 

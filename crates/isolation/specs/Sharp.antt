@@ -5,7 +5,7 @@ use Rattle.machine.specs.declared.call.Call.TheVariants.{Step, Run, Signal, Regi
 use Rattle.machine.specs.declared.call.Outcome.{Outcome}
 use Rattle.machine.specs.declared.call.Outcome.TheVariants.{Entered, Idle, Violated, Stalled, NotCarried, Done}
 use Rattle.levels.specs.declared.level.LevelState.TheVariants.{Waiting}
-use Rattle.machine.specs.declared.state.Mark.TheVariants.{Unset, Exit}
+use Rattle.machine.specs.declared.state.Mark.TheVariants.{Unset, Wait, Exit}
 use Rattle.machine.specs.declared.state.Violation.{Violation}
 use Rattle.machine.specs.declared.state.ViolationKind.TheVariants.{Entry}
 use Rattle.levels.specs.Levels.{level_at}
@@ -115,7 +115,7 @@ pub record SharpWider : Type 0 where
   pub by_cell : Wider → (m : Machine) (cs : List Call) (x : Moment) → Among x (steps_of cs m) → (k : ℕ) → x.outcome ≡ Entered k
       → x.after.cpu.work.p ≡ word (read x.before.words (0x0100 + k) + 2)
   -- the premises of the rest, and that it takes no others
-  pub guarded : (m : Machine) → m.cpu.switch ≡ true → m.cpu.pp ≡ false → Guarded m
+  pub guarded : (m : Machine) → m.cpu.switch ≡ true → (m.cpu.pp ≡ false) ⊎ (m.cpu.mark ≡ Wait) → Guarded m
   pub levels : (m t : Machine) → m.cpu.guard.ii ≡ t.cpu.guard.ii → m.cpu.guard.ei ≡ t.cpu.guard.ei → m.cpu.guard.levels ≡ t.cpu.guard.levels
       → (m.cpu.mark ≡ Exit → ⊥) → (t.cpu.mark ≡ Exit → ⊥) → SameLevels m t
   pub protected : (m t : Machine) → m.cpu.guard.protection ≡ t.cpu.guard.protection → ReadsAlike m.cpu.guard.protection m t → SameProtected m t

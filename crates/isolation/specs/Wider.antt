@@ -1,5 +1,5 @@
 -- The law of isolation with the fewest premises: what holds of every machine, and what of every machine with the protect switch on.
-use Rattle.std.specs.Prelude.{◌≡◌, ℕ, zero, suc, Bool, true, false, List, [], ◌∷◌, ◌++◌}
+use Rattle.std.specs.Prelude.{◌≡◌, ℕ, zero, suc, Bool, true, false, ◌⊎◌, List, [], ◌∷◌, ◌++◌}
 use Rattle.machine.specs.declared.call.Call.{Call}
 use Rattle.machine.specs.declared.call.Outcome.{Outcome}
 use Rattle.machine.specs.declared.call.Outcome.TheVariants.{Entered, Idle, Violated, Stalled, NotCarried, Done}
@@ -47,10 +47,10 @@ EntryNeeded all =
     (xs ys zs : List Moment) (x z : Moment) → all ≡ xs ++ (x ∷ (ys ++ (z ∷ zs)))
     → NotForeground x → NoEntry ys → Executes z.outcome → PProtected z.before ≡ false
 
--- a machine in its background under protection: the protect switch is on, and PP is 0
+-- a machine that is not in its foreground: the protect switch is on, and PP is 0 or the wait mark is set
 pub record Guarded (m : Machine) : Type 0 where
   pub switch : m.cpu.switch ≡ true
-  pub pp : m.cpu.pp ≡ false
+  pub away : (m.cpu.pp ≡ false) ⊎ (m.cpu.mark ≡ Wait)
 
 -- two machines alike in what decides an entry: the inhibits, the level records, and whether the exit mark is set
 pub record SameLevels (m t : Machine) : Type 0 where
@@ -79,7 +79,7 @@ pub record Wider : Type 0 where
   pub held : (m : Machine) → m.cpu.switch ≡ true → (cs : List Call) → EntryNeeded (steps_of cs m)
   -- with the switch off too
   pub by_cell : (m : Machine) (cs : List Call) → Each ByCell (steps_of cs m)
-  -- two backgrounds that get the same calls: the first entry of either is that of the other
+  -- of two machines that get the same calls the first entry of either is that of the other
   pub entries : (m t : Machine) → Guarded m → Guarded t → SameLevels m t → (cs : List Call)
       → SameEntry (SameCells m t) (steps_of cs m) (steps_of cs t)
   -- their protected words are equal after every step until either enters

@@ -15,7 +15,7 @@ use Rattle.machine.specs.declared.state.Violation.{Violation}
 use Rattle.machine.specs.declared.work.Work.{Work}
 use Rattle.levels.specs.Levels.{is_active, level_at, next_state, told}
 use Rattle.machine.specs.State.{Machine}
-use Rattle.machine.specs.Step.{Moment, act, by_entry, by_fetch, by_judgement, by_mark, carried, class, due, enter, exits, fetch_pp, fetched, instruction, judge, on_work, stalls, step, store, stores, violate, violated, violation}
+use Rattle.machine.specs.Step.{Moment, act, by_entry, by_fetch, by_judgement, by_mark, carried, class, due, enter, exits, fetch_pp, fetched, instruction, judge, on_work, stalls, step, store, stores, violated, violation}
 use Rattle.machine.specs.Words.{protects}
 use Rattle.isolation.specs.Steps.{Enters, Executes, PProtected, SameWords, zero_waiting}
 use Rattle.isolation.specs.Wider.{IsViolation, exit_marked}
@@ -65,19 +65,32 @@ module _ (G : Moment → Type 0) (m : Machine)
 
 -- A BACKGROUND STEP
 
--- what a background step leaves, whether it is allowed or not
-pub record Tame (m : Machine) (o : Outcome) (t : Machine) : Type 0 where
-  pub no_entry : Enters o → ⊥
-  pub away : (t.cpu.pp ≡ false) ⊎ (t.cpu.mark ≡ Wait)
-  pub exit : exit_marked t.cpu.mark ≡ false
-  pub words : SameWords m.cpu.guard.protection m t
-  pub protection : t.cpu.guard.protection ≡ m.cpu.guard.protection
-  pub ii : t.cpu.guard.ii ≡ m.cpu.guard.ii
-  pub ei : t.cpu.guard.ei ≡ m.cpu.guard.ei
-  pub levels : (t.cpu.guard.levels ≡ m.cpu.guard.levels) ⊎ (IsViolation o × (t.cpu.guard.levels ≡ zero_waiting m.cpu.guard.levels))
+-- what a background step leaves, whether it is allowed or not; an idle step leaves that too
+pub record Tame (x : Moment) : Type 0 where
+  pub no_entry : Enters x.outcome → ⊥
+  pub away : (x.after.cpu.pp ≡ false) ⊎ (x.after.cpu.mark ≡ Wait)
+  pub exit : exit_marked x.after.cpu.mark ≡ false
+  pub words : SameWords x.before.cpu.guard.protection x.before x.after
+  pub protection : x.after.cpu.guard.protection ≡ x.before.cpu.guard.protection
+  pub ii : x.after.cpu.guard.ii ≡ x.before.cpu.guard.ii
+  pub ei : x.after.cpu.guard.ei ≡ x.before.cpu.guard.ei
+  pub levels : (x.after.cpu.guard.levels ≡ x.before.cpu.guard.levels)
+      ⊎ (IsViolation x.outcome × (x.after.cpu.guard.levels ≡ zero_waiting x.before.cpu.guard.levels))
+
+tame_idle : (m : Machine) → m.cpu.mark ≡ Wait → Tame (from m Idle m)
+tame_idle m w = record {
+  no_entry = λ e. e;
+  away = inr w;
+  exit = ap exit_marked w;
+  words = λ a l. refl;
+  protection = refl;
+  ii = refl;
+  ei = refl;
+  levels = inl refl;
+}
 
 -- an instruction that changes registers alone
-tame_work : (m : Machine) (o : Outcome) (v : Work) → (Enters o → ⊥) → Tame m o (on_work (λ _. v) (fetched false m))
+tame_work : (m : Machine) (o : Outcome) (v : Work) → (Enters o → ⊥) → Tame (from m o (on_work (λ _. v) (fetched false m)))
 tame_work m o v n = record {
   no_entry = n;
   away = inl refl;
@@ -90,7 +103,7 @@ tame_work m o v n = record {
 }
 
 -- a store to an unprotected address
-tame_store : (m : Machine) (a w : ℕ) (v : Work) → protects m.cpu.guard.protection a ≡ false → Tame m Done (store a w (on_work (λ _. v) (fetched false m)))
+tame_store : (m : Machine) (a w : ℕ) (v : Work) → protects m.cpu.guard.protection a ≡ false → Tame (from m Done (store a w (on_work (λ _. v) (fetched false m))))
 tame_store m a w v e = record {
   no_entry = λ x. x;
   away = inl refl;
@@ -107,7 +120,7 @@ unprotected ps i a true e j = let q = rw e at j in absurd cc
 unprotected ps i a false e j = e
 
 -- an allowed instruction of the background, in which no LDX exits
-tame_act : (m : Machine) (i : ℕ) (x : Instruction) → judge true m.cpu.guard.protection i (class x) ≡ None → Tame m (carried (class x)) (act false x (fetched false m))
+tame_act : (m : Machine) (i : ℕ) (x : Instruction) → judge true m.cpu.guard.protection i (class x) ≡ None → Tame (from m (carried (class x)) (act false x (fetched false m)))
 tame_act m i (Sta ea) j = tame_store m ea _ _ (unprotected m.cpu.guard.protection i ea (protects m.cpu.guard.protection ea) refl j)
 tame_act m i (Im ea) j = tame_store m ea _ _ (unprotected m.cpu.guard.protection i ea (protects m.cpu.guard.protection ea) refl j)
 tame_act m i (Read f ea) j = absurd cc
@@ -140,7 +153,7 @@ violated_levels x ls Active e =
     inl (ap (λ s. set ls 0 (record { state = s; enabled = l.enabled })) still ∙ set_first ls _)
 violated_levels x ls s e = inr (tt, ap (λ s. set ls 0 (record { state = next_state s Violate; enabled = (level_at ls 0).enabled })) e)
 
-tame_violate : (m : Machine) (x : Violation) → Tame m (violation (stalls m.cpu) x) (violate false x m)
+tame_violate : (m : Machine) (x : Violation) → Tame (violated false x m)
 tame_violate m x = record {
   no_entry = no_entry (stalls m.cpu) x;
   away = inl refl;
@@ -163,13 +176,12 @@ fetch_is true l q e = (cc, λ _. refl)
 fetch_is false true q e = absurd cc
 fetch_is false false q e = (cc, λ f. cc)
 
--- A STEP BY CASES, WITH THE SWITCH ON
+-- A STEP BY CASES, WITH THE SWITCH ON: an entry, an instruction of the foreground, or a tame step
 module _ (G : Moment → Type 0) (m : Machine) (on : m.cpu.switch ≡ true)
     (enters : (k : ℕ) → due m.cpu.mark m.cpu.guard ≡ Some k → G (from m (Entered k) (enter k m)))
-    (idles : m.cpu.mark ≡ Wait → G (from m Idle m))
     (front : (m.cpu.mark ≡ Wait → ⊥) → m.cpu.pp ≡ true → PProtected m ≡ true
     → G (from m (carried (class (instruction m))) (act (exits m.cpu.mark true) (instruction m) (fetched true m))))
-    (back : (o : Outcome) (t : Machine) → Tame m o t → (Executes o → PProtected m ≡ false) → G (from m o t)) where
+    (back : (o : Outcome) (t : Machine) → Tame (from m o t) → (Executes o → PProtected m ≡ false) → G (from m o t)) where
   page : (pp : Bool) → Fetches m (Some pp) → (PProtected m ≡ pp) × (pp ≡ true → m.cpu.pp ≡ true)
   page pp f = fetch_is m.cpu.pp (PProtected m) pp (rw on at f.pp)
 
@@ -182,9 +194,9 @@ module _ (G : Moment → Type 0) (m : Machine) (on : m.cpu.switch ≡ true)
   go_acts true f j = front f.wait ((page true f).1 refl) (page true f).0
   go_acts false f j =
       back _ _
-      (subst (λ b. Tame m (carried (class (instruction m))) (act b (instruction m) (fetched false m))) (sym (no_exits m.cpu.mark))
+      (subst (λ b. Tame (from m (carried (class (instruction m))) (act b (instruction m) (fetched false m)))) (sym (no_exits m.cpu.mark))
       (tame_act m m.cpu.work.p (instruction m) (subst (λ b. judge (b && true) m.cpu.guard.protection m.cpu.work.p (class (instruction m)) ≡ None) on j)))
       (λ _. (page false f).0)
 
   pub step_cases : G (step m)
-  step_cases = step_forms G m enters idles (λ x f. back _ _ (tame_violate m x) (λ r. absurd (no_run (stalls m.cpu) x r))) go_breaks go_acts
+  step_cases = step_forms G m enters (λ w. back _ _ (tame_idle m w) (λ r. absurd r)) (λ x f. back _ _ (tame_violate m x) (λ r. absurd (no_run (stalls m.cpu) x r))) go_breaks go_acts

@@ -95,64 +95,38 @@ other : {A B : Type 0} → A ⊎ B → (A → ⊥) → B
 other (inl a) f = absurd (f a)
 other (inr b) f = b
 
-step_contained : (m : Machine) → m.cpu.switch ≡ true → Contained (step m)
-step_contained m on =
-    step_cases Contained m on
+-- a step that is not of the foreground is tame
+tame : (m : Machine) → m.cpu.switch ≡ true → NotForeground (step m) → Tame (step m)
+tame m on =
+    step_cases (λ x. NotForeground x → Tame x) m on
     (λ k d b. absurd (b.0 tt))
-    (λ w b. (record { words = λ a l. refl; protection = refl; ii = refl; ei = refl; levels = inl refl }, λ _. refl))
     (λ w p l b. absurd (both_ways (PProtected m) (b.1 (executes (class (instruction m)))) l))
-    (λ o t h r b. (
+    (λ o t h r b. h)
+
+step_contained : (m : Machine) → m.cpu.switch ≡ true → Contained (step m)
+step_contained m on b =
+    let h = tame m on b in (
       record {
         words = h.words;
         protection = h.protection;
         ii = h.ii;
         ei = h.ei;
-        levels = ⊎_elim inl (λ v. inr (fault o v.0, v.1)) h.levels;
+        levels = ⊎_elim inl (λ v. inr (fault (step m).outcome v.0, v.1)) h.levels;
       },
       λ n. first h.levels (λ v. n v.0),
-    ))
+    )
 
 -- (b)
--- a step that is not of the foreground leaves the machine away from it
 guarded_after : (m : Machine) → m.cpu.switch ≡ true → NotForeground (step m) → Guarded (step m).after
-guarded_after m on b = record { switch = step_switch m ∙ on; away = away b }
-  where
-    away : NotForeground (step m) → ((step m).after.cpu.pp ≡ false) ⊎ ((step m).after.cpu.mark ≡ Wait)
-    away =
-        step_cases (λ x. NotForeground x → (x.after.cpu.pp ≡ false) ⊎ (x.after.cpu.mark ≡ Wait)) m on
-        (λ k d b. absurd (b.0 tt))
-        (λ w b. inr w)
-        (λ w p l b. absurd (both_ways (PProtected m) (b.1 (executes (class (instruction m)))) l))
-        (λ o t h r b. h.away)
+guarded_after m on b = record { switch = step_switch m ∙ on; away = (tame m on b).away }
 
--- and a step from there is an entry, or leaves what a background step does, and is none of the foreground
-tame_step : (m : Machine) → Guarded m → Enters (step m).outcome ⊎ (Tame m (step m).outcome (step m).after × NotForeground (step m))
-tame_step m h =
-    step_cases (λ x. Enters x.outcome ⊎ (Tame m x.outcome x.after × NotForeground x)) m h.switch
+-- a machine that is not in its foreground enters, or stays away from it
+guarded_step : (m : Machine) → Guarded m → Enters (step m).outcome ⊎ NotForeground (step m)
+guarded_step m h =
+    step_cases (λ x. Enters x.outcome ⊎ NotForeground x) m h.switch
     (λ k d. inl tt)
-    (λ w.
-    inr (
-      record {
-        no_entry = λ e. e;
-        away = inr w;
-        exit = ap exit_marked w;
-        words = λ a l. refl;
-        protection = refl;
-        ii = refl;
-        ei = refl;
-        levels = inl refl;
-      },
-      (λ e. e, λ r. absurd r),
-    ))
     (λ w p l. absurd (⊎_elim (λ e. both_ways m.cpu.pp e p) w h.away))
-    (λ o t k r. inr (k, (k.no_entry, r)))
-
--- a step from there that is no entry
-tame : (m : Machine) → Guarded m → (Enters (step m).outcome → ⊥) → Tame m (step m).outcome (step m).after
-tame m h n = (other (tame_step m h) n).0
-
-guarded_step : (m : Machine) → Guarded m → (Enters (step m).outcome → ⊥) → Guarded (step m).after
-guarded_step m h n = guarded_after m h.switch (other (tame_step m h) n).1
+    (λ o t k r. inr (k.no_entry, r))
 
 guarded_poked : (k : ℕ) (m : Machine) → Guarded m → Guarded (poked k m)
 guarded_poked k m h = record { switch = h.switch; away = h.away }
@@ -185,12 +159,11 @@ HeldAfter (x ∷ xs) = (NotForeground x → Held xs) × HeldAfter xs
 
 held : (ms : List Move) (m : Machine) → Guarded m → Held (trail m ms)
 held [] m h = tt
-held (tick ∷ ms) m h = go (held ms (step m).after) (tame_step m h)
+held (tick ∷ ms) m h = go (held ms (step m).after) (guarded_step m h)
   where
-    go : (Guarded (step m).after → Held (trail (step m).after ms)) → Enters (step m).outcome ⊎ (Tame m (step m).outcome (step m).after × NotForeground (step m))
-        → Held (trail m (tick ∷ ms))
+    go : (Guarded (step m).after → Held (trail (step m).after ms)) → Enters (step m).outcome ⊎ NotForeground (step m) → Held (trail m (tick ∷ ms))
     go rest (inl e) = inl e
-    go rest (inr b) = inr (b.1.1, rest (guarded_after m h.switch b.1))
+    go rest (inr b) = inr (b.1, rest (guarded_after m h.switch b))
 held (poke k ∷ ms) m h = held ms (poked k m) (guarded_poked k m h)
 
 held_after : (ms : List Move) (m : Machine) → m.cpu.switch ≡ true → HeldAfter (trail m ms)
@@ -219,6 +192,22 @@ entry_needed all h xs ys zs x z e b n r = held_until ys zs z (held_at xs (ys ++ 
 
 -- (c) TWO MACHINES
 
+-- what a step leaves that is no entry
+pub record Kept (m : Machine) : Type 0 where
+  pub guarded : Guarded (step m).after
+  pub tame : Tame (from m (step m).outcome (step m).after)
+
+kept : (m : Machine) → Guarded m → (Enters (step m).outcome → ⊥) → Kept m
+kept m h n =
+    let b = other (guarded_step m h) n in
+    record {
+      guarded = guarded_after m h.switch b;
+      tame = subst (λ z. Tame (from z (step m).outcome (step m).after)) (before m) (tame m h.switch b);
+    }
+  where
+    before : (m : Machine) → (step m).before ≡ m
+    before m = step_forms (λ x. x.before ≡ m) m (λ k d. refl) (λ w. refl) (λ x f. refl) (λ pp x f j. refl) (λ pp f j. refl)
+
 -- two machines of which neither has entered: their protected words
 pub record Pair (ps : List ℕ) (m t : Machine) : Type 0 where
   pub here : Guarded m
@@ -242,14 +231,14 @@ pair_poked ps k m t h = record {
 pair_step : (ps : List ℕ) (m t : Machine) → Pair ps m t → (Enters (step m).outcome → ⊥) → (Enters (step t).outcome → ⊥)
     → Pair ps (step m).after (step t).after
 pair_step ps m t h f g =
-    let x = tame m h.here f in
-    let y = tame t h.there g in
+    let x = kept m h.here f in
+    let y = kept t h.there g in
     record {
-      here = guarded_step m h.here f;
-      there = guarded_step t h.there g;
-      here_protection = x.protection ∙ h.here_protection;
-      there_protection = y.protection ∙ h.there_protection;
-      words = λ a l. y.words a (rw h.there_protection l) ∙ h.words a l ∙ sym (x.words a (rw h.here_protection l));
+      here = x.guarded;
+      there = y.guarded;
+      here_protection = x.tame.protection ∙ h.here_protection;
+      there_protection = y.tame.protection ∙ h.there_protection;
+      words = λ a l. y.tame.words a (rw h.there_protection l) ∙ h.words a l ∙ sym (x.tame.words a (rw h.here_protection l));
     }
 
 agree : (ps : List ℕ) (ms : List Move) (m t : Machine) → Pair ps m t → WordsAgree ps (trail m ms) (trail t ms)
@@ -280,11 +269,13 @@ twin_poked k m t h = record {
 twin_step : (m t : Machine) → Twin m t → (Enters (step m).outcome → ⊥) → (Enters (step t).outcome → ⊥)
     → (IsViolation (step m).outcome → ⊥) → (IsViolation (step t).outcome → ⊥) → Twin (step m).after (step t).after
 twin_step m t h f g v w =
-    let x = tame m h.here f in
-    let y = tame t h.there g in
+    let p = kept m h.here f in
+    let q = kept t h.there g in
+    let x = p.tame in
+    let y = q.tame in
     record {
-      here = guarded_step m h.here f;
-      there = guarded_step t h.there g;
+      here = p.guarded;
+      there = q.guarded;
       alike = record {
         ii = x.ii ∙ h.alike.ii ∙ sym y.ii;
         ei = x.ei ∙ h.alike.ei ∙ sym y.ei;
@@ -378,7 +369,6 @@ settled_on : (m : Machine) → Settled m → m.cpu.switch ≡ true → (step m).
 settled_on m h on =
     step_cases (λ x. x.after.cpu.pp ≡ false → exit_marked x.after.cpu.mark ≡ false) m on
     (λ k d e. refl)
-    (λ w e. h.on on e)
     (λ w p l e. (acted (exits m.cpu.mark true) (instruction m) (fetched true m)).exit refl refl e)
     (λ o t k r e. k.exit)
 

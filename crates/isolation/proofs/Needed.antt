@@ -38,16 +38,16 @@ guard = record {
     there = record { switch = refl; away = inl refl };
     levels = record { ii = refl; ei = refl; levels = refl; exit = refl };
     protected = record { protection = refl; words = λ a e. refl };
-    one = λ h. eqb-false 0 7 refl (h 0x0100 refl);
-    other = λ h. eqb-false 7 0 refl (h 0x0100 refl);
+    one = ((λ x. x, tt), (λ x. x, tt), λ h. eqb-false 0 7 refl (h 0x0100 refl));
+    other = ((λ x. x, tt), (λ x. x, tt), λ h. eqb-false 7 0 refl (h 0x0100 refl));
   };
   word_pp = record {
     here = record { switch = refl; away = inl refl };
     there = record { switch = refl; away = inl refl };
     levels = record { ii = refl; ei = refl; levels = refl; exit = refl };
     protected = record { protection = refl; words = λ a e. refl };
-    one = λ h. eqb-false 0 7 refl (h 1 refl);
-    other = λ h. eqb-false 7 0 refl (h 1 refl);
+    one = ((λ x. x, tt), (λ x. x, tt), λ h. eqb-false 0 7 refl (h 1 refl));
+    other = ((λ x. x, tt), (λ x. x, tt), λ h. eqb-false 7 0 refl (h 1 refl));
   };
   first_pp = (record { switch = refl; away = inl refl }, λ e. false≢true (sym e));
   last_pp = λ e. false≢true (sym e);
@@ -90,8 +90,14 @@ entries = record {
 pub words : WordsNeed
 unfolding machine page_0 page_1 armed waiting stores_1 quiet urgent step instruction lowest
 words = record {
-  protection = ((record { switch = refl; away = inl refl }, record { switch = refl; away = inl refl }), λ h. eqb-false 7 0 refl (h 1 refl));
-  words = ((record { switch = refl; away = inl refl }, record { switch = refl; away = inl refl }), λ h. eqb-false 7 0 refl (h 0 refl));
+  protection = (
+    (record { switch = refl; away = inl refl }, record { switch = refl; away = inl refl }),
+    ((λ x. x, tt), (λ x. x, tt), λ h. eqb-false 7 0 refl (h 1 refl)),
+  );
+  words = (
+    (record { switch = refl; away = inl refl }, record { switch = refl; away = inl refl }),
+    ((λ x. x, tt), (λ x. x, tt), λ h. eqb-false 7 0 refl (h 0 refl)),
+  );
   protected = (
     (record { switch = refl; away = inl refl }, record { switch = refl; away = inl refl }),
     record { protection = refl; words = λ a e. refl },
@@ -116,6 +122,7 @@ unfolding machine page_0 page_1 armed waiting stores_1 stores_page_1 quiet urgen
 steps = record {
   no_entry = (λ x. absurd x, λ h. eqb-false 0x0200 0 refl (h.words 1 refl));
   unprotected = (λ x. x, λ h. eqb-false 7 0 refl (h.words 1 refl));
+  protected = ((λ x. x, λ x. refl), λ h. eqb-false 7 0 refl (h 1));
   violation = ((λ x. x, λ x. absurd x), λ h. false≢true (sym (ap (λ (ls : List Level). is_waiting (level_at ls 0).state) h)));
   background = λ h. false≢true (sym (h [] [] [] _ _ refl tt tt));
   between = λ h. false≢true (sym (h [] (_ ∷ []) [] _ _ refl (λ x. x, λ x. refl) tt));

@@ -92,8 +92,12 @@ abbrev pub EntersApart : Type 0 → List Call → Machine → Machine → Type 0
 EntersApart A cs m t = SameEntry A (steps_of cs m) (steps_of cs t) → ⊥
 
 -- protected words that differ after a step
+abbrev pub Differ : List ℕ → Machine → Machine → Type 0
+Differ ps m t = SameWords ps (after_calls (Step ∷ []) m) (after_calls (Step ∷ []) t) → ⊥
+
+-- protected words that differ after a step of which neither is an entry
 abbrev pub WordsApart : List ℕ → Machine → Machine → Type 0
-WordsApart ps m t = SameWords ps (after_calls (Step ∷ []) m) (after_calls (Step ∷ []) t) → ⊥
+WordsApart ps m t = NoEntry (steps_of (Step ∷ []) m) × NoEntry (steps_of (Step ∷ []) t) × Differ ps m t
 
 -- two machines alike, not in their foreground, of which C fails in either order once f has changed the first
 pub record Spoilt (f : Machine → Machine) (C : Machine → Machine → Type 0) (m t : Machine) : Type 0 where
@@ -157,15 +161,17 @@ pub record WordsNeed : Type 0 where
       Ready m t × SameProtected m t × (read (after_calls (Step ∷ []) t).words 1 ≡ read (after_calls (Step ∷ []) m).words 1 → ⊥)
   -- one of the two enters
   pub entry_here : let m = urgent page_0 stores_1 in let t = quiet page_0 stores_1 in
-      Ready m t × SameProtected m t × NoEntry (steps_of (Step ∷ []) t) × WordsApart page_0 m t
+      Ready m t × SameProtected m t × NoEntry (steps_of (Step ∷ []) t) × Differ page_0 m t
   pub entry_there : let m = quiet page_0 stores_1 in let t = urgent page_0 stores_1 in
-      Ready m t × SameProtected m t × NoEntry (steps_of (Step ∷ []) m) × WordsApart page_0 m t
+      Ready m t × SameProtected m t × NoEntry (steps_of (Step ∷ []) m) × Differ page_0 m t
 
 -- WHAT (a) AND (b) ASK OF STEPS, with the switch on
 pub record StepsNeed : Type 0 where
   -- an entry changes protected words, and so does an instruction of a protected page
   pub no_entry : let x = step (urgent page_0 stores_1) in (Executes x.outcome → PProtected x.before ≡ false) × (Unchanged x → ⊥)
   pub unprotected : let x = step (ahead (machine 0 page_0 armed stores_1)) in (Enters x.outcome → ⊥) × (Unchanged x → ⊥)
+  -- a word that is not protected may change
+  pub protected : let x = step (machine 0 page_1 armed stores_1) in NotForeground x × (((a : ℕ) → read x.after.words a ≡ read x.before.words a) → ⊥)
   -- a violation does set level 0 waiting
   pub violation : let x = step (machine 0 page_1 armed stores_page_1) in
       NotForeground x × (x.after.cpu.guard.levels ≡ x.before.cpu.guard.levels → ⊥)

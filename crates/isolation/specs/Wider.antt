@@ -75,9 +75,10 @@ SameEntry A xs ys = (n k p : ℕ) → EntersFirst xs n k p → NoViolation n xs 
 
 -- the law, for machines m and t as they are, and any list of calls
 pub record Wider : Type 0 where
+  -- with the switch on each step is contained, and only an entry brings the foreground back
   pub contained : (m : Machine) → m.cpu.switch ≡ true → (cs : List Call) → Each Contained (steps_of cs m)
   pub held : (m : Machine) → m.cpu.switch ≡ true → (cs : List Call) → EntryNeeded (steps_of cs m)
-  -- with the switch off too
+  -- with the switch off too an entry goes by its cell
   pub by_cell : (m : Machine) (cs : List Call) → Each ByCell (steps_of cs m)
   -- of two machines that get the same calls the first entry of either is that of the other
   pub entries : (m t : Machine) → Guarded m → Guarded t → SameLevels m t → (cs : List Call)

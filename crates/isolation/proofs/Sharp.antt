@@ -1,5 +1,5 @@
 -- What each conclusion gives, worked out.
-use Rattle.std.proofs.Common.{◌≡◌, ℕ, suc, Bool, true, false, ◌⊎◌, List, [], ◌∷◌, ◌++◌, sym, refl, ap, ◌∙◌, subst, inl, inr, ⊎_elim}
+use Rattle.std.proofs.Common.{◌≡◌, ℕ, suc, Bool, true, ◌⊎◌, List, [], ◌∷◌, ◌++◌, refl, ap, ◌∙◌, subst, inl, inr, ⊎_elim}
 use Rattle.std.proofs.lemmas.Bool.{both_ways}
 use Rattle.levels.specs.declared.level.Level.{Level}
 use Rattle.levels.specs.declared.level.LevelState.TheVariants.{Waiting}
@@ -72,6 +72,7 @@ follows b = record {
   now = λ x y xs ys k h e. let z = h 0 k _ (e, refl) tt tt in (z.1.0, λ l. z.1.1 ∙ z.2 l);
   none = λ x xs k h e. (h 0 k _ (e, refl) tt tt).1;
   later = λ x y xs ys h f v w n k p e c d. let z = h (suc n) k p (f, e) (v, c) (w, d) in (z.0, z.1.1, z.2);
+  alone = λ x xs h f v n k p e c d. absurd (h (suc n) k p (f, e) (v, c) tt).1;
 }
 
 pub entries : (b : Bool) → Agree (SameEntry (b ≡ true)) IsViolation (b ≡ true)
@@ -79,6 +80,7 @@ entries b = record {
   now = λ x y xs ys k h e. let z = h 0 k _ (e, refl) tt tt in (z.1.0, λ l. z.1.1 ∙ z.2 l);
   none = λ x xs k h e. (h 0 k _ (e, refl) tt tt).1;
   later = λ x y xs ys h f v w n k p e c d. let z = h (suc n) k p (f, e) (v, c) (w, d) in (z.0, z.1.1, z.2);
+  alone = λ x xs h f v n k p e c d. absurd (h (suc n) k p (f, e) (v, c) tt).1;
 }
 
 pub pairs : SharpPairs
@@ -104,9 +106,11 @@ isolated = record {
       h.indistinct t (record { pp = p; last = l; switch = on }) ms ts cs (record { pp = px; mark = ux }) (record { pp = py; mark = uy }) (record { protection = c; ii = i; ei = j; levels = k; words = w });
 }
 
-unexited : (k : Mark) → (k ≡ Exit → ⊥) → exit_marked k ≡ false
-unexited Exit n = absurd (n refl)
-unexited k n = refl
+same_exit : (j k : Mark) → (j ≡ Exit → k ≡ Exit) → (k ≡ Exit → j ≡ Exit) → exit_marked j ≡ exit_marked k
+same_exit Exit Exit f g = refl
+same_exit Exit k f g = let q = f refl in absurd cc
+same_exit j Exit f g = let q = g refl in absurd cc
+same_exit j k f g = refl
 
 pub wider : SharpWider
 wider = record {
@@ -114,7 +118,7 @@ wider = record {
   held = λ h m on cs xs ys zs x z q e r n s l. both_ways _ (h.held m on cs xs ys zs x z q (e, r) n s) l;
   by_cell = λ h m cs x a. at_step _ _ x a (h.by_cell m cs);
   guarded = λ m on a. record { switch = on; away = a };
-  levels = λ m t i j l e f. record { ii = i; ei = j; levels = l; exit = unexited m.cpu.mark e ∙ sym (unexited t.cpu.mark f) };
+  levels = λ m t i j l e f. record { ii = i; ei = j; levels = l; exit = same_exit m.cpu.mark t.cpu.mark e f };
   protected = λ m t p w. record { protection = p; words = w };
   cells = λ m t c l. (c, l);
   entries = λ h. h.entries;

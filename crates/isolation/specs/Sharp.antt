@@ -75,6 +75,7 @@ pub record Agree (F : List Moment → List Moment → Type 0) (N : Outcome → T
   pub none : (x : Moment) (xs : List Moment) (k : ℕ) → F (x ∷ xs) [] → x.outcome ≡ Entered k → ⊥
   -- if neither enters, and nothing excuses, so it is with the steps that follow
   pub later : (x y : Moment) (xs ys : List Moment) → F (x ∷ xs) (y ∷ ys) → (Enters x.outcome → ⊥) → (N x.outcome → ⊥) → (N y.outcome → ⊥) → F xs ys
+  pub alone : (x : Moment) (xs : List Moment) → F (x ∷ xs) [] → (Enters x.outcome → ⊥) → (N x.outcome → ⊥) → F xs []
 
 -- WHAT AGREES OF TWO MACHINES
 pub record SharpPairs : Type 0 where
@@ -117,7 +118,7 @@ pub record SharpWider : Type 0 where
   -- the premises of the rest, and that it takes no others
   pub guarded : (m : Machine) → m.cpu.switch ≡ true → (m.cpu.pp ≡ false) ⊎ (m.cpu.mark ≡ Wait) → Guarded m
   pub levels : (m t : Machine) → m.cpu.guard.ii ≡ t.cpu.guard.ii → m.cpu.guard.ei ≡ t.cpu.guard.ei → m.cpu.guard.levels ≡ t.cpu.guard.levels
-      → (m.cpu.mark ≡ Exit → ⊥) → (t.cpu.mark ≡ Exit → ⊥) → SameLevels m t
+      → (m.cpu.mark ≡ Exit → t.cpu.mark ≡ Exit) → (t.cpu.mark ≡ Exit → m.cpu.mark ≡ Exit) → SameLevels m t
   pub protected : (m t : Machine) → m.cpu.guard.protection ≡ t.cpu.guard.protection → ReadsAlike m.cpu.guard.protection m t → SameProtected m t
   pub cells : (m t : Machine) → SameProtected m t → page_protected m.cpu.guard.protection 1 ≡ true → SameCells m t
   pub entries : Wider → (m t : Machine) → Guarded m → Guarded t → SameLevels m t → (cs : List Call)

@@ -2,3 +2,5 @@ pub mod Cases
 pub mod Moves
 pub mod Theorem
 pub mod Examples
+pub mod Needed
+pub mod Sharp

@@ -1,160 +1,152 @@
--- The law of isolation, over whole lists of calls.
-use Rattle.std.proofs.Common.{◌≡◌, ℕ, zero, suc, ◌+◌, ◌/◌, ◌<◌, Bool, true, false, ◌⊎◌, List, [], ◌∷◌, ◌++◌, Some, None, Option, sym, refl, ap, ◌∙◌, subst, inl, inr, ⊎_elim, arith}
+-- The law of isolation, over whole lists of calls: with the fewest premises, and then as it is stated of a machine set going.
+use Rattle.std.proofs.Common.{◌≡◌, ℕ, zero, suc, ◌+◌, ◌/◌, ◌<◌, Bool, true, false, cond, ◌⊎◌, List, [], ◌∷◌, ◌++◌, Some, None, Option, sym, refl, ap, ◌∙◌, subst, inl, inr, ⊎_elim, arith}
 use Rattle.std.proofs.lemmas.Bool.{both_ways}
-use Rattle.machine.specs.declared.call.Call.{Call}
 use Rattle.machine.specs.declared.call.Outcome.{Outcome}
-use Rattle.machine.specs.declared.call.Outcome.TheVariants.{Entered, Idle, Violated, Stalled, NotCarried as Uncarried, Done}
+use Rattle.machine.specs.declared.call.Outcome.TheVariants.{Entered, Violated, Stalled, NotCarried as Uncarried, Done}
 use Rattle.machine.specs.declared.instruction.Instruction.{Instruction}
-use Rattle.machine.specs.declared.instruction.Instruction.TheVariants.{Lda, And, Add, Sub, Ldx, Sta, Im, B, Branch, Copy, ReadRegister, WriteRegister, Read, Write, NotCarried}
+use Rattle.machine.specs.declared.instruction.Instruction.TheVariants.{Ldx, Write}
 use Rattle.machine.specs.declared.instruction.WriteFunction.{WriteFunction}
-use Rattle.machine.specs.declared.instruction.WriteFunction.TheVariants.{Protection, Inhibits, Wait as WaitFunction, Exit as ExitFunction, Levels, Unlisted}
+use Rattle.machine.specs.declared.instruction.WriteFunction.TheVariants.{Wait as WaitFunction, Exit as ExitFunction}
 use Rattle.levels.specs.declared.level.Event.TheVariants.{Trigger}
 use Rattle.levels.specs.declared.level.Level.{Level}
 use Rattle.levels.specs.declared.level.Sight.{Sight}
 use Rattle.levels.specs.declared.level.Sight.TheVariants.{Enters as EntersNow, Blocks, Passes}
 use Rattle.machine.specs.declared.state.Mark.{Mark}
 use Rattle.machine.specs.declared.state.Mark.TheVariants.{Unset, Wait, Exit}
+use Rattle.levels.specs.Bits.{bit}
+use Rattle.levels.specs.Levels.{choose, lowest, told as told_level}
 use Rattle.machine.specs.Calls.{Move, after_calls, end, poke, poked, tick, trail}
-use Rattle.levels.specs.Levels.{choose, lowest}
-use Rattle.machine.specs.State.{Cpu, Guard, Machine, told}
-use Rattle.machine.specs.Step.{Class, Moment, act, by_entry, carried, class, due, enter, exits, fetched, index, instruction, none_such, plain, privileged, step, stores, write_function}
+use Rattle.machine.specs.State.{Guard, Machine}
+use Rattle.machine.specs.Step.{Class, Moment, act, by_entry, carried, class, due, enter, exits, fetched, instruction, none_such, on_cpu, stalls, step, write_function}
 use Rattle.machine.specs.Words.{page_protected, protects, read, word}
-use Rattle.isolation.specs.Steps.{Background, Barred, Each, Enters, Executes, Faults, NoEntry, PProtected, SameWords}
-use Rattle.isolation.specs.Isolation.{Alike, ByCell, Confined, EntryBetween, Follows, InBackground, Indistinct, Isolation, Unchanged, WordsAgree}
-use Rattle.isolation.proofs.Cases.{NoExit, Tame, from, step_cases}
+use Rattle.isolation.specs.Steps.{Background, Barred, Clean, Each, Enters, Executes, Faults, NoEntry, PProtected, SameWords, steps_of}
+use Rattle.isolation.specs.Isolation.{ByCell, Confined, Follows, Isolation, WordsAgree}
+use Rattle.isolation.specs.Wider.{Contained, EntryNeeded, Guarded, IsViolation, NoViolation, NotForeground, SameCells, SameEntry, SameLevels, SameProtected, Wider, exit_marked}
+use Rattle.isolation.proofs.Cases.{Tame, from, no_entry, step_cases, step_forms}
 use Rattle.isolation.proofs.Moves.{end_calls, moves, trail_calls}
 
--- WHAT HOLDS OF EVERY STEP, WITH THE SWITCH ON
-
-no_entry_carried : (c : Class) → Enters (carried c) → ⊥
-no_entry_carried plain h = h
-no_entry_carried (stores a) h = h
-no_entry_carried (privileged a) h = h
-no_entry_carried none_such h = h
-
-not_barred : (c : Class) → Barred (carried c) → ⊥
-not_barred plain h = h
-not_barred (stores a) h = h
-not_barred (privileged a) h = h
-not_barred none_such h = h
-
--- an instruction of a protected page is no background step
-front_apart : (m t : Machine) (c : Class) → PProtected m ≡ true → Background (from m (carried c) t) → ⊥
-front_apart m t c l (inl h) = both_ways (PProtected m) h.1 l
-front_apart m t c l (inr h) = not_barred c h
-
-apart_entered : (k : ℕ) (m t : Machine) → Background (from m (Entered k) t) → ⊥
-apart_entered k m t (inl h) = ⊎_elim (λ x. x) (λ x. x) h.0
-apart_entered k m t (inr h) = h
-
-apart_idle : (m t : Machine) → Background (from m Idle t) → ⊥
-apart_idle m t (inl h) = ⊎_elim (λ x. x) (λ x. x) h.0
-apart_idle m t (inr h) = h
-
-index_switch : (b : Bool) (a : ℕ) (m : Machine) → (index b a m).cpu.switch ≡ m.cpu.switch
-index_switch true a m = refl
-index_switch false a m = refl
-
-write_switch : (f : WriteFunction) (s : Cpu) → (write_function f s).switch ≡ s.switch
-write_switch (Protection n) s = refl
-write_switch Inhibits s = refl
-write_switch WaitFunction s = refl
-write_switch ExitFunction s = refl
-write_switch (Levels c) s = refl
-write_switch Unlisted s = refl
-
-act_switch : (b : Bool) (x : Instruction) (m : Machine) → (act b x m).cpu.switch ≡ m.cpu.switch
-act_switch b (Lda ea) m = refl
-act_switch b (And ea) m = refl
-act_switch b (Add ea) m = refl
-act_switch b (Sub ea) m = refl
-act_switch b (Ldx ea) m = index_switch b ea m
-act_switch b (Sta ea) m = refl
-act_switch b (Im ea) m = refl
-act_switch b (B ea) m = refl
-act_switch b (Branch c t) m = refl
-act_switch b (Copy x) m = refl
-act_switch b (ReadRegister n) m = refl
-act_switch b (WriteRegister n) m = refl
-act_switch b (Read f ea) m = refl
-act_switch b (Write f ea) m = write_switch f m.cpu
-act_switch b NotCarried m = refl
-
--- the switch stays on
-step_switch : (m : Machine) → m.cpu.switch ≡ true → (step m).after.cpu.switch ≡ true
-step_switch m on =
-    step_cases (λ x. x.after.cpu.switch ≡ true) m on
-    (λ k d. on) (λ d w. on) (λ p l. act_switch (exits m.cpu.mark true) (instruction m) (fetched true m) ∙ on) (λ d w o t h r. h.switch ∙ on)
-
--- (a)
-unchanged : (m : Machine) (o : Outcome) (t : Machine) → Tame m o t → Unchanged (from m o t)
-unchanged m o t h = record { words = h.words; protection = h.protection; ii = h.ii; ei = h.ei; levels = h.levels }
-
-pub step_confined : (m : Machine) → m.cpu.switch ≡ true → Confined (step m)
-step_confined m on =
-    step_cases Confined m on
-    (λ k d b. absurd (apart_entered k m (enter k m) b)) (λ d w b. absurd (apart_idle m m b)) (λ p l b. absurd (front_apart m m (class (instruction m)) l b))
-    (λ d w o t h r b. unchanged m o t h)
-
-same_level : (j k : ℕ) → Entered j ≡ Entered k → j ≡ k
-same_level j k e = cc
+-- WHAT HOLDS OF EVERY STEP
 
 is_entry : (o : Outcome) (k : ℕ) → o ≡ Entered k → Enters o
 is_entry o k e = subst Enters (sym e) tt
 
-enter_cell : (k : ℕ) (m : Machine) → (enter k m).cpu.work.p ≡ word (read m.words (0x0100 + k) + 2)
-enter_cell k m = refl
+no_entry_carried : (c : Class) → Enters (carried c) → ⊥
+no_entry_carried none_such h = h
+no_entry_carried c h = h
 
-step_by_cell : (m : Machine) → m.cpu.switch ≡ true → ByCell (step m)
-step_by_cell m on =
-    step_cases ByCell m on
-    (λ j d k e. rw (← same_level j k e) (enter_cell j m))
-    (λ d w k e. absurd (is_entry Idle k e))
-    (λ p l k e. absurd (no_entry_carried (class (instruction m)) (is_entry (carried (class (instruction m))) k e)))
-    (λ d w o t h r k e. absurd (h.no_entry (is_entry o k e)))
+executes : (c : Class) → Executes (carried c)
+executes none_such = tt
+executes c = tt
+
+-- what an instruction leaves of the switch, PP and the mark
+pub record Acted (m t : Machine) : Type 0 where
+  pub switch : t.cpu.switch ≡ m.cpu.switch
+  pub off : m.cpu.switch ≡ false → m.cpu.pp ≡ true → t.cpu.pp ≡ true
+  pub exit : m.cpu.pp ≡ true → exit_marked m.cpu.mark ≡ false → t.cpu.pp ≡ false → exit_marked t.cpu.mark ≡ false
+
+acted_alike : (m t : Machine) → t.cpu.switch ≡ m.cpu.switch → t.cpu.pp ≡ m.cpu.pp → t.cpu.mark ≡ m.cpu.mark → Acted m t
+acted_alike m t s p k = record { switch = s; off = λ _ q. p ∙ q; exit = λ _ u _. ap exit_marked k ∙ u }
+
+acted_write : (f : WriteFunction) (m : Machine) → Acted m (on_cpu (write_function f) m)
+acted_write WaitFunction m = record { switch = refl; off = λ _ p. p; exit = λ _ _ _. refl }
+acted_write ExitFunction m = record { switch = refl; off = λ _ p. p; exit = λ p _ e. absurd (both_ways m.cpu.pp e p) }
+acted_write f m = acted_alike m (on_cpu (write_function f) m) refl refl refl
+
+acted : (b : Bool) (x : Instruction) (m : Machine) → Acted m (act b x m)
+acted true (Ldx ea) m =
+    record { switch = refl; off = λ e _. ap (λ on. cond on (bit (read m.words ea) 11) true) e; exit = λ _ u _. u }
+acted b (Write f ea) m = acted_write f m
+acted b x m = acted_alike m (act b x m) refl refl refl
+
+-- no step moves the switch
+step_switch : (m : Machine) → (step m).after.cpu.switch ≡ m.cpu.switch
+step_switch m =
+    step_forms (λ x. x.after.cpu.switch ≡ m.cpu.switch) m
+    (λ k d. refl) (λ w. refl) (λ x f. refl) (λ pp x f j. refl)
+    (λ pp f j. (acted (exits m.cpu.mark pp) (instruction m) (fetched pp m)).switch)
+
+-- an entry is of the level that is due, and is that step alone
+entered : (m : Machine) (k : ℕ) → (step m).outcome ≡ Entered k → (due m.cpu.mark m.cpu.guard ≡ Some k) × (step m ≡ from m (Entered k) (enter k m))
+entered m =
+    step_forms (λ x. (k : ℕ) → x.outcome ≡ Entered k → (due m.cpu.mark m.cpu.guard ≡ Some k) × (x ≡ from m (Entered k) (enter k m))) m
+    (λ j d k e. let q : j ≡ k = cc in (d ∙ ap Some q, ap (λ i. from m (Entered i) (enter i m)) q))
+    (λ w k e. absurd cc)
+    (λ x f k e. absurd (no_entry (stalls m.cpu) x (is_entry _ k e)))
+    (λ pp x f j k e. absurd (no_entry (stalls m.cpu) x (is_entry _ k e)))
+    (λ pp f j k e. absurd (no_entry_carried (class (instruction m)) (is_entry _ k e)))
+
+step_by_cell : (m : Machine) → ByCell (step m)
+step_by_cell m k e = rw (entered m k e).1 refl
+
+-- WITH THE SWITCH ON
+
+-- (a)
+fault : (o : Outcome) → IsViolation o → Faults o
+fault (Violated x) h = h
+fault (Stalled x) h = absurd h
+fault o h = h
+
+-- what is left of two where one cannot be
+first : {A B : Type 0} → A ⊎ B → (B → ⊥) → A
+first (inl a) f = a
+first (inr b) f = absurd (f b)
+
+other : {A B : Type 0} → A ⊎ B → (A → ⊥) → B
+other (inl a) f = absurd (f a)
+other (inr b) f = b
+
+-- a step that is not of the foreground is tame
+tame : (m : Machine) → m.cpu.switch ≡ true → NotForeground (step m) → Tame (step m)
+tame m on =
+    step_cases (λ x. NotForeground x → Tame x) m on
+    (λ k d b. absurd (b.0 tt))
+    (λ w p l b. absurd (both_ways (PProtected m) (b.1 (executes (class (instruction m)))) l))
+    (λ o t h r b. h)
+
+step_contained : (m : Machine) → m.cpu.switch ≡ true → Contained (step m)
+step_contained m on b =
+    let h = tame m on b in (
+      record {
+        words = h.words;
+        protection = h.protection;
+        ii = h.ii;
+        ei = h.ei;
+        levels = ⊎_elim inl (λ v. inr (fault (step m).outcome v.0, v.1)) h.levels;
+      },
+      λ n. first h.levels (λ v. n v.0),
+    )
 
 -- (b)
--- behind the protection: in the background, or idle there
-pub record Behind (m : Machine) : Type 0 where
-  pub on : m.cpu.switch ≡ true
-  pub pp : m.cpu.pp ≡ false
-  pub no_exit : NoExit m.cpu.mark
+guarded_after : (m : Machine) → m.cpu.switch ≡ true → NotForeground (step m) → Guarded (step m).after
+guarded_after m on b = record { switch = step_switch m ∙ on; away = (tame m on b).away }
 
-behind_tame : (m : Machine) (o : Outcome) (t : Machine) → m.cpu.switch ≡ true → Tame m o t → Behind t
-behind_tame m o t on h = record { on = h.switch ∙ on; pp = h.pp; no_exit = h.no_exit }
-
-behind_after : (m : Machine) → m.cpu.switch ≡ true → Background (step m) → Behind (step m).after
-behind_after m on =
-    step_cases (λ x. Background x → Behind x.after) m on
-    (λ k d b. absurd (apart_entered k m (enter k m) b)) (λ d w b. absurd (apart_idle m m b)) (λ p l b. absurd (front_apart m m (class (instruction m)) l b))
-    (λ d w o t h r b. behind_tame m o t on h)
-
--- a step from there that is no entry
-pub record Onward (x : Moment) : Type 0 where
-  pub runs : Executes x.outcome → PProtected x.before ≡ false
-  pub behind : Behind x.after
-
-behind_step : (m : Machine) → Behind m → Enters (step m).outcome ⊎ Onward (step m)
-behind_step m h =
-    step_cases (λ x. Enters x.outcome ⊎ Onward x) m h.on
+-- a machine that is not in its foreground enters, or stays away from it
+guarded_step : (m : Machine) → Guarded m → Enters (step m).outcome ⊎ NotForeground (step m)
+guarded_step m h =
+    step_cases (λ x. Enters x.outcome ⊎ NotForeground x) m h.switch
     (λ k d. inl tt)
-    (λ d w. inr (record { runs = λ r. absurd r; behind = h }))
-    (λ p l. absurd (both_ways m.cpu.pp h.pp p))
-    (λ d w o t k r. inr (record { runs = r; behind = behind_tame m o t h.on k }))
+    (λ w p l. absurd (⊎_elim (λ e. both_ways m.cpu.pp e p) w h.away))
+    (λ o t k r. inr (k.no_entry, r))
 
-behind_poked : (k : ℕ) (m : Machine) → Behind m → Behind (poked k m)
-behind_poked k m h = record { on = h.on; pp = h.pp; no_exit = h.no_exit }
-
-step_before : (m : Machine) → m.cpu.switch ≡ true → (step m).before ≡ m
-step_before m on = step_cases (λ x. x.before ≡ m) m on (λ k d. refl) (λ d w. refl) (λ p l. refl) (λ d w o t h r. refl)
+guarded_poked : (k : ℕ) (m : Machine) → Guarded m → Guarded (poked k m)
+guarded_poked k m h = record { switch = h.switch; away = h.away }
 
 -- OVER A LIST OF MOVES
 
--- what holds of every step with the switch on, holds of each
 pub each : (Q : Moment → Type 0) → ((m : Machine) → m.cpu.switch ≡ true → Q (step m)) → (ms : List Move) (m : Machine) → m.cpu.switch ≡ true → Each Q (trail m ms)
 each Q f [] m on = tt
-each Q f (tick ∷ ms) m on = (f m on, each Q f ms (step m).after (step_switch m on))
+each Q f (tick ∷ ms) m on = (f m on, each Q f ms (step m).after (step_switch m ∙ on))
 each Q f (poke k ∷ ms) m on = each Q f ms (poked k m) on
+
+each_any : (Q : Moment → Type 0) → ((m : Machine) → Q (step m)) → (ms : List Move) (m : Machine) → Each Q (trail m ms)
+each_any Q f [] m = tt
+each_any Q f (tick ∷ ms) m = (f m, each_any Q f ms (step m).after)
+each_any Q f (poke k ∷ ms) m = each_any Q f ms (poked k m)
+
+end_switch : (ms : List Move) (m : Machine) → (end m ms).cpu.switch ≡ m.cpu.switch
+end_switch [] m = refl
+end_switch (tick ∷ ms) m = end_switch ms (step m).after ∙ step_switch m
+end_switch (poke k ∷ ms) m = end_switch ms (poked k m)
 
 -- until an entry, no instruction of a protected page is executed
 abbrev Held : List Moment → Type 0
@@ -163,72 +155,90 @@ Held (x ∷ xs) = Enters x.outcome ⊎ ((Executes x.outcome → PProtected x.bef
 
 abbrev HeldAfter : List Moment → Type 0
 HeldAfter [] = Unit {0}
-HeldAfter (x ∷ xs) = (Background x → Held xs) × HeldAfter xs
+HeldAfter (x ∷ xs) = (NotForeground x → Held xs) × HeldAfter xs
 
-held : (ms : List Move) (m : Machine) → Behind m → Held (trail m ms)
+held : (ms : List Move) (m : Machine) → Guarded m → Held (trail m ms)
 held [] m h = tt
-held (tick ∷ ms) m h = go (held ms (step m).after) (behind_step m h)
+held (tick ∷ ms) m h = go (held ms (step m).after) (guarded_step m h)
   where
-    go : (Behind (step m).after → Held (trail (step m).after ms)) → Enters (step m).outcome ⊎ Onward (step m) → Held (trail m (tick ∷ ms))
+    go : (Guarded (step m).after → Held (trail (step m).after ms)) → Enters (step m).outcome ⊎ NotForeground (step m) → Held (trail m (tick ∷ ms))
     go rest (inl e) = inl e
-    go rest (inr o) = inr (o.runs, rest o.behind)
-held (poke k ∷ ms) m h = held ms (poked k m) (behind_poked k m h)
+    go rest (inr b) = inr (b.1, rest (guarded_after m h.switch b))
+held (poke k ∷ ms) m h = held ms (poked k m) (guarded_poked k m h)
 
 held_after : (ms : List Move) (m : Machine) → m.cpu.switch ≡ true → HeldAfter (trail m ms)
 held_after [] m on = tt
-held_after (tick ∷ ms) m on = (λ b. held ms (step m).after (behind_after m on b), held_after ms (step m).after (step_switch m on))
+held_after (tick ∷ ms) m on = (λ b. held ms (step m).after (guarded_after m on b), held_after ms (step m).after (step_switch m ∙ on))
 held_after (poke k ∷ ms) m on = held_after ms (poked k m) on
 
-end_switch : (ms : List Move) (m : Machine) → m.cpu.switch ≡ true → (end m ms).cpu.switch ≡ true
-end_switch [] m on = on
-end_switch (tick ∷ ms) m on = end_switch ms (step m).after (step_switch m on)
-end_switch (poke k ∷ ms) m on = end_switch ms (poked k m) on
+-- the same by places
+not_both : (o : Outcome) → Enters o → Executes o → ⊥
+not_both Uncarried e r = e
+not_both Done e r = e
+not_both o e r = r
 
--- (c)
+held_at : (xs rest : List Moment) (x : Moment) → HeldAfter (xs ++ (x ∷ rest)) → NotForeground x → Held rest
+held_at [] rest x h b = h.0 b
+held_at (y ∷ xs) rest x h b = held_at xs rest x h.1 b
+
+held_until : (ys zs : List Moment) (z : Moment) → Held (ys ++ (z ∷ zs)) → NoEntry ys → Executes z.outcome → PProtected z.before ≡ false
+held_until [] zs z (inl e) n r = absurd (not_both z.outcome e r)
+held_until [] zs z (inr h) n r = h.0 r
+held_until (y ∷ ys) zs z (inl e) n r = absurd (n.0 e)
+held_until (y ∷ ys) zs z (inr h) n r = held_until ys zs z h.1 n.1 r
+
+entry_needed : (all : List Moment) → HeldAfter all → EntryNeeded all
+entry_needed all h xs ys zs x z e b n r = held_until ys zs z (held_at xs (ys ++ (z ∷ zs)) x (subst HeldAfter e h) b) n r
+
+-- (c) TWO MACHINES
+
+-- what a step leaves that is no entry
+pub record Kept (m : Machine) : Type 0 where
+  pub guarded : Guarded (step m).after
+  pub tame : Tame (from m (step m).outcome (step m).after)
+
+kept : (m : Machine) → Guarded m → (Enters (step m).outcome → ⊥) → Kept m
+kept m h n =
+    let b = other (guarded_step m h) n in
+    record {
+      guarded = guarded_after m h.switch b;
+      tame = subst (λ z. Tame (from z (step m).outcome (step m).after)) (before m) (tame m h.switch b);
+    }
+  where
+    before : (m : Machine) → (step m).before ≡ m
+    before m = step_forms (λ x. x.before ≡ m) m (λ k d. refl) (λ w. refl) (λ x f. refl) (λ pp x f j. refl) (λ pp f j. refl)
 
 -- two machines of which neither has entered: their protected words
 pub record Pair (ps : List ℕ) (m t : Machine) : Type 0 where
-  pub here : Behind m
-  pub there : Behind t
+  pub here : Guarded m
+  pub there : Guarded t
   pub here_protection : m.cpu.guard.protection ≡ ps
   pub there_protection : t.cpu.guard.protection ≡ ps
   pub words : SameWords ps m t
 
+pair : (m t : Machine) → Guarded m → Guarded t → SameProtected m t → Pair m.cpu.guard.protection m t
+pair m t x y c = record { here = x; there = y; here_protection = refl; there_protection = sym c.protection; words = c.words }
+
 pair_poked : (ps : List ℕ) (k : ℕ) (m t : Machine) → Pair ps m t → Pair ps (poked k m) (poked k t)
 pair_poked ps k m t h = record {
-  here = behind_poked k m h.here;
-  there = behind_poked k t h.there;
+  here = guarded_poked k m h.here;
+  there = guarded_poked k t h.there;
   here_protection = h.here_protection;
   there_protection = h.there_protection;
   words = h.words;
 }
 
--- what one step from m leaves
-pub record Went (ps : List ℕ) (m t : Machine) : Type 0 where
-  pub behind : Behind t
-  pub keeps : t.cpu.guard.protection ≡ ps
-  pub words : SameWords ps m t
-
-went : (ps : List ℕ) (m : Machine) → Behind m → m.cpu.guard.protection ≡ ps → (Enters (step m).outcome → ⊥) → Went ps m (step m).after
-went ps m h l out =
-    step_cases (λ x. (Enters x.outcome → ⊥) → Went ps m x.after) m h.on
-    (λ k d n. absurd (n tt))
-    (λ d w n. record { behind = h; keeps = l; words = λ a q. refl })
-    (λ p q n. absurd (both_ways m.cpu.pp h.pp p))
-    (λ d w o t k r n. record { behind = behind_tame m o t h.on k; keeps = k.protection ∙ l; words = λ a q. k.words a (rw l q) })
-    out
-
 pair_step : (ps : List ℕ) (m t : Machine) → Pair ps m t → (Enters (step m).outcome → ⊥) → (Enters (step t).outcome → ⊥)
     → Pair ps (step m).after (step t).after
 pair_step ps m t h f g =
-    let x = went ps m h.here h.here_protection f in
-    let y = went ps t h.there h.there_protection g in
+    let x = kept m h.here f in
+    let y = kept t h.there g in
     record {
-      here = x.behind;
-      there = y.behind;
-      here_protection = x.keeps;
-      there_protection = y.keeps;
-      words = λ a l. y.words a l ∙ h.words a l ∙ sym (x.words a l);
+      here = x.guarded;
+      there = y.guarded;
+      here_protection = x.tame.protection ∙ h.here_protection;
+      there_protection = y.tame.protection ∙ h.there_protection;
+      words = λ a l. y.tame.words a (rw h.there_protection l) ∙ h.words a l ∙ sym (x.tame.words a (rw h.here_protection l));
     }
 
 agree : (ps : List ℕ) (ms : List Move) (m t : Machine) → Pair ps m t → WordsAgree ps (trail m ms) (trail t ms)
@@ -243,204 +253,229 @@ ends_agree ps [] m t h f g = h.words
 ends_agree ps (tick ∷ ms) m t h f g = ends_agree ps ms (step m).after (step t).after (pair_step ps m t h f.0 g.0) f.1 g.1
 ends_agree ps (poke k ∷ ms) m t h f g = ends_agree ps ms (poked k m) (poked k t) (pair_poked ps k m t h) f g
 
--- two machines of which neither has entered or faulted
-pub record Twin (ps : List ℕ) (m t : Machine) : Type 0 where
-  pub pair : Pair ps m t
-  pub here_mark : m.cpu.mark ≡ Unset
-  pub there_mark : t.cpu.mark ≡ Unset
-  pub guard : m.cpu.guard ≡ t.cpu.guard
+-- two machines of which neither has entered or violated: what decides an entry
+pub record Twin (m t : Machine) : Type 0 where
+  pub here : Guarded m
+  pub there : Guarded t
+  pub alike : SameLevels m t
 
-poked_guard : (k : ℕ) (m t : Machine) → m.cpu.guard ≡ t.cpu.guard → (poked k m).cpu.guard ≡ (poked k t).cpu.guard
-poked_guard k m t e = ap (λ (g : Guard). (told k Trigger (record { work = m.cpu.work; guard = g; pp = true; mark = Unset; last = 0; violation = None; switch = true })).guard) e
-
-twin_poked : (ps : List ℕ) (k : ℕ) (m t : Machine) → Twin ps m t → Twin ps (poked k m) (poked k t)
-twin_poked ps k m t h = record {
-  pair = pair_poked ps k m t h.pair;
-  here_mark = h.here_mark;
-  there_mark = h.there_mark;
-  guard = poked_guard k m t h.guard;
+twin_poked : (k : ℕ) (m t : Machine) → Twin m t → Twin (poked k m) (poked k t)
+twin_poked k m t h = record {
+  here = guarded_poked k m h.here;
+  there = guarded_poked k t h.there;
+  alike = record { ii = h.alike.ii; ei = h.alike.ei; levels = ap (told_level k Trigger) h.alike.levels; exit = h.alike.exit };
 }
 
--- a step that neither enters nor faults leaves the guard, and no mark
-clean_step : (m : Machine) → Behind m → m.cpu.mark ≡ Unset → (Enters (step m).outcome → ⊥) → (Faults (step m).outcome → ⊥)
-    → ((step m).after.cpu.guard ≡ m.cpu.guard) × ((step m).after.cpu.mark ≡ Unset)
-clean_step m h u out =
-    step_cases (λ x. (Enters x.outcome → ⊥) → (Faults x.outcome → ⊥) → (x.after.cpu.guard ≡ m.cpu.guard) × (x.after.cpu.mark ≡ Unset)) m h.on
-    (λ k d n f. absurd (n tt))
-    (λ d w n f. (refl, u))
-    (λ p q n f. absurd (both_ways m.cpu.pp h.pp p))
-    (λ d w o t k r n f. k.clean f)
-    out
-
-twin_step : (ps : List ℕ) (m t : Machine) → Twin ps m t → (Enters (step m).outcome → ⊥) → (Enters (step t).outcome → ⊥)
-    → (Faults (step m).outcome → ⊥) → (Faults (step t).outcome → ⊥) → Twin ps (step m).after (step t).after
-twin_step ps m t h e f x y =
-    let a = clean_step m h.pair.here h.here_mark e x in
-    let b = clean_step t h.pair.there h.there_mark f y in
-    record { pair = pair_step ps m t h.pair e f; here_mark = a.1; there_mark = b.1; guard = a.0 ∙ h.guard ∙ sym b.0 }
+twin_step : (m t : Machine) → Twin m t → (Enters (step m).outcome → ⊥) → (Enters (step t).outcome → ⊥)
+    → (IsViolation (step m).outcome → ⊥) → (IsViolation (step t).outcome → ⊥) → Twin (step m).after (step t).after
+twin_step m t h f g v w =
+    let p = kept m h.here f in
+    let q = kept t h.there g in
+    let x = p.tame in
+    let y = q.tame in
+    record {
+      here = p.guarded;
+      there = q.guarded;
+      alike = record {
+        ii = x.ii ∙ h.alike.ii ∙ sym y.ii;
+        ei = x.ei ∙ h.alike.ei ∙ sym y.ei;
+        levels = first x.levels (λ b. v b.0) ∙ h.alike.levels ∙ sym (first y.levels (λ b. w b.0));
+        exit = x.exit ∙ sym y.exit;
+      };
+    }
 
 -- which level enters
-none≢some : (k : ℕ) → None ≡ Some k → ⊥
-none≢some k e = let z : ◌≡◌ {A = ℕ} 0 1 = cc in omega arith
+due_is : (k : Mark) (g : Guard) → due k g ≡ cond (exit_marked k) None (lowest 16 0 g.ii g.ei g.levels)
+due_is Unset g = refl
+due_is Wait g = refl
+due_is Exit g = refl
 
-same_some : (j k : ℕ) → Some j ≡ Some k → j ≡ k
-same_some j k e = cc
-
-due_entered : (m : Machine) → m.cpu.switch ≡ true → (k : ℕ) → (step m).outcome ≡ Entered k → due m.cpu.mark m.cpu.guard ≡ Some k
-due_entered m on =
-    step_cases (λ x. (k : ℕ) → x.outcome ≡ Entered k → due m.cpu.mark m.cpu.guard ≡ Some k) m on
-    (λ j d k e. d ∙ ap Some (same_level j k e))
-    (λ d w k e. absurd (is_entry Idle k e))
-    (λ p l k e. absurd (no_entry_carried (class (instruction m)) (is_entry (carried (class (instruction m))) k e)))
-    (λ d w o t h r k e. absurd (h.no_entry (is_entry o k e)))
+same_due : (m t : Machine) → SameLevels m t → due m.cpu.mark m.cpu.guard ≡ due t.cpu.mark t.cpu.guard
+same_due m t a =
+    due_is m.cpu.mark m.cpu.guard
+    ∙ (λ i. cond (a.exit i) None (lowest 16 0 (a.ii i) (a.ei i) (a.levels i)))
+    ∙ sym (due_is t.cpu.mark t.cpu.guard)
 
 entered_due : (m : Machine) (k : ℕ) → due m.cpu.mark m.cpu.guard ≡ Some k → (step m).outcome ≡ Entered k
 unfolding step
 entered_due m k e = ap (λ (d : Option ℕ). (by_entry d m).outcome) e
 
--- an entry has a level
+-- both enter the same level at the same step
+same_entry : (m t : Machine) → SameLevels m t → (k : ℕ) → (step m).outcome ≡ Entered k → (step t).outcome ≡ Entered k
+same_entry m t a k e = entered_due t k (sym (same_due m t a) ∙ (entered m k e).0)
+
+same_back : (m t : Machine) → SameLevels m t → SameLevels t m
+same_back m t a = record { ii = sym a.ii; ei = sym a.ei; levels = sym a.levels; exit = sym a.exit }
+
 entry_level : (o : Outcome) → Enters o → (k : ℕ) × (o ≡ Entered k)
 entry_level (Entered k) h = (k, refl)
-entry_level Idle h = absurd h
 entry_level (Violated x) h = absurd h
-entry_level (Stalled x) h = absurd h
-entry_level Uncarried h = absurd h
-entry_level Done h = absurd h
+entry_level o h = absurd h
 
-twin_due : (ps : List ℕ) (m t : Machine) → Twin ps m t → due m.cpu.mark m.cpu.guard ≡ due t.cpu.mark t.cpu.guard
-twin_due ps m t h = ap (due m.cpu.mark) h.guard ∙ ap (λ k. due k t.cpu.guard) (h.here_mark ∙ sym h.there_mark)
-
--- both enter the same level at the same step
-twin_enters : (ps : List ℕ) (m t : Machine) → Twin ps m t → (k : ℕ) → (step m).outcome ≡ Entered k → (step t).outcome ≡ Entered k
-twin_enters ps m t h k e = entered_due t k (sym (twin_due ps m t h) ∙ due_entered m h.pair.here.on k e)
-
-twin_swap : (ps : List ℕ) (m t : Machine) → Twin ps m t → Twin ps t m
-twin_swap ps m t h = record {
-  pair = record {
-    here = h.pair.there;
-    there = h.pair.here;
-    here_protection = h.pair.there_protection;
-    there_protection = h.pair.here_protection;
-    words = λ a l. sym (h.pair.words a l);
-  };
-  here_mark = h.there_mark;
-  there_mark = h.here_mark;
-  guard = sym h.guard;
-}
-
-twin_no_entry : (ps : List ℕ) (m t : Machine) → Twin ps m t → (Enters (step m).outcome → ⊥) → Enters (step t).outcome → ⊥
-twin_no_entry ps m t h out e =
+no_entry_either : (m t : Machine) → SameLevels m t → (Enters (step m).outcome → ⊥) → Enters (step t).outcome → ⊥
+no_entry_either m t a out e =
     let k = entry_level (step t).outcome e in
-    out (is_entry (step m).outcome k.0 (twin_enters ps t m (twin_swap ps m t h) k.0 k.1))
+    out (is_entry (step m).outcome k.0 (same_entry t m (same_back m t a) k.0 k.1))
 
--- there are sixteen levels
+-- there are sixteen levels, and their cells are in page 1
 chosen : (x : Sight) (n k j : ℕ) (rest : Option ℕ) → (rest ≡ Some j → j < suc k + n) → choose x k rest ≡ Some j → j < k + suc n
-chosen EntersNow n k j rest f e = let q : k ≡ j = same_some k j e in omega arith
-chosen Blocks n k j rest f e = absurd (none≢some j e)
+chosen EntersNow n k j rest f e = let q : k ≡ j = cc in omega arith
+chosen Blocks n k j rest f e = absurd cc
 chosen Passes n k j rest f e = let q = f e in omega arith
 
 lowest_below : (n k : ℕ) (ii ei : Bool) (ls : List Level) (j : ℕ) → lowest n k ii ei ls ≡ Some j → j < k + n
 unfolding lowest
-lowest_below zero k ii ei ls j e = absurd (none≢some j e)
+lowest_below zero k ii ei ls j e = absurd cc
 lowest_below (suc n) k ii ei ls j e = chosen _ n k j (lowest n (suc k) ii ei ls) (lowest_below n (suc k) ii ei ls j) e
 
-pub due_below : (b : Mark) (g : Guard) (k : ℕ) → due b g ≡ Some k → k < 16
-due_below Unset g k e = let q = lowest_below 16 0 g.ii g.ei g.levels k e in omega arith
-due_below Wait g k e = let q = lowest_below 16 0 g.ii g.ei g.levels k e in omega arith
-due_below Exit g k e = absurd (none≢some k e)
+due_below : (b : Mark) (g : Guard) (k : ℕ) → due b g ≡ Some k → k < 16
+due_below Exit g k e = absurd cc
+due_below b g k e = let q = lowest_below 16 0 g.ii g.ei g.levels k e in omega arith
 
 cell_protected : (ps : List ℕ) (k : ℕ) → k < 16 → page_protected ps 1 ≡ true → protects ps (0x0100 + k) ≡ true
 cell_protected ps k h l = let q : (0x0100 + k) / 256 ≡ 1 = omega arith in rw q l
 
 -- where a step that enters goes to
-goes : (m : Machine) → m.cpu.switch ≡ true → (k : ℕ) → (step m).outcome ≡ Entered k → (step m).after.cpu.work.p ≡ word (read m.words (0x0100 + k) + 2)
-goes m on k e = step_by_cell m on k e ∙ ap (λ (x : Machine). word (read x.words (0x0100 + k) + 2)) (step_before m on)
+goes : (m : Machine) (k : ℕ) → (step m).outcome ≡ Entered k → (step m).after.cpu.work.p ≡ word (read m.words (0x0100 + k) + 2)
+goes m k e = rw (entered m k e).1 refl
 
-twin_goes : (ps : List ℕ) (m t : Machine) → Twin ps m t → (k : ℕ) → (step m).outcome ≡ Entered k → page_protected ps 1 ≡ true
+pair_goes : (ps : List ℕ) (m t : Machine) → Pair ps m t → (k : ℕ) → (step m).outcome ≡ Entered k → (step t).outcome ≡ Entered k → page_protected ps 1 ≡ true
     → (step t).after.cpu.work.p ≡ (step m).after.cpu.work.p
-twin_goes ps m t h k e l =
-    let b = due_below m.cpu.mark m.cpu.guard k (due_entered m h.pair.here.on k e) in
-    goes t h.pair.there.on k (twin_enters ps m t h k e)
-    ∙ ap (λ (w : ℕ). word (w + 2)) (h.pair.words (0x0100 + k) (cell_protected ps k b l))
-    ∙ sym (goes m h.pair.here.on k e)
+pair_goes ps m t h k e f l =
+    let b = due_below m.cpu.mark m.cpu.guard k (entered m k e).0 in
+    goes t k f ∙ ap (λ (w : ℕ). word (w + 2)) (h.words (0x0100 + k) (cell_protected ps k b l)) ∙ sym (goes m k e)
 
-follows : (ps : List ℕ) (ms : List Move) (m t : Machine) → Twin ps m t → Follows (page_protected ps 1) (trail m ms) (trail t ms)
-follows ps [] m t h n k p e f g = absurd e
-follows ps (tick ∷ ms) m t h zero k p e f g =
-    ((step t).after.cpu.work.p, (twin_enters ps m t h k e.0, refl), λ l. twin_goes ps m t h k e.0 l ∙ e.1)
-follows ps (tick ∷ ms) m t h (suc n) k p e f g =
-    let other = twin_no_entry ps m t h e.0 in
-    let rest = follows ps ms (step m).after (step t).after (twin_step ps m t h e.0 other f.0 g.0) n k p e.1 f.1 g.1 in
+entries_agree : (A : Type 0) (ps : List ℕ) → (A → page_protected ps 1 ≡ true) → (ms : List Move) (m t : Machine) → Twin m t → (A → Pair ps m t)
+    → SameEntry A (trail m ms) (trail t ms)
+entries_agree A ps l [] m t h c n k p e f g = absurd e
+entries_agree A ps l (tick ∷ ms) m t h c zero k p e f g =
+    let same = same_entry m t h.alike k e.0 in
+    ((step t).after.cpu.work.p, (same, refl), λ a. pair_goes ps m t (c a) k e.0 same (l a) ∙ e.1)
+entries_agree A ps l (tick ∷ ms) m t h c (suc n) k p e f g =
+    let other = no_entry_either m t h.alike e.0 in
+    let rest = entries_agree A ps l ms (step m).after (step t).after (twin_step m t h e.0 other f.0 g.0) (λ a. pair_step ps m t (c a) e.0 other) n k p e.1 f.1 g.1 in
     (rest.0, (other, rest.1), rest.2)
-follows ps (poke j ∷ ms) m t h n k p e f g = follows ps ms (poked j m) (poked j t) (twin_poked ps j m t h) n k p e f g
+entries_agree A ps l (poke j ∷ ms) m t h c n k p e f g =
+    entries_agree A ps l ms (poked j m) (poked j t) (twin_poked j m t h) (λ a. pair_poked ps j m t (c a)) n k p e f g
 
-same_guard : (g h : Guard) → g.protection ≡ h.protection → g.ii ≡ h.ii → g.ei ≡ h.ei → g.levels ≡ h.levels → g ≡ h
-same_guard g h a b c d = λ i. record { protection = a i; ii = b i; ei = c i; levels = d i }
+-- THE EXIT MARK
 
-unmarked : (k : Mark) → k ≡ Unset → NoExit k
-unmarked k e = subst NoExit (sym e) tt
+-- with the switch on it is set only while PP is 1; with the switch off PP stays 1
+pub record Settled (m : Machine) : Type 0 where
+  pub on : m.cpu.switch ≡ true → m.cpu.pp ≡ false → exit_marked m.cpu.mark ≡ false
+  pub off : m.cpu.switch ≡ false → m.cpu.pp ≡ true
 
-twin : (m t : Machine) → m.cpu.switch ≡ true → t.cpu.switch ≡ true → InBackground m → InBackground t → Alike m t → Twin m.cpu.guard.protection m t
-twin m t on on' x y c = record {
-  pair = record {
-    here = record { on = on; pp = x.pp; no_exit = unmarked m.cpu.mark x.mark };
-    there = record { on = on'; pp = y.pp; no_exit = unmarked t.cpu.mark y.mark };
-    here_protection = refl;
-    there_protection = sym c.protection;
-    words = c.words;
-  };
-  here_mark = x.mark;
-  there_mark = y.mark;
-  guard = same_guard m.cpu.guard t.cpu.guard c.protection c.ii c.ei c.levels;
-}
+settled_on : (m : Machine) → Settled m → m.cpu.switch ≡ true → (step m).after.cpu.pp ≡ false → exit_marked (step m).after.cpu.mark ≡ false
+settled_on m h on =
+    step_cases (λ x. x.after.cpu.pp ≡ false → exit_marked x.after.cpu.mark ≡ false) m on
+    (λ k d e. refl)
+    (λ w p l e. (acted (exits m.cpu.mark true) (instruction m) (fetched true m)).exit refl refl e)
+    (λ o t k r e. k.exit)
 
-indistinct : (m t : Machine) → Twin m.cpu.guard.protection m t → (cs : List Call) → Indistinct m t cs
-indistinct m t h cs =
-    let ps = m.cpu.guard.protection in
-    record {
-      there = subst2 (Follows (page_protected ps 1)) (sym (trail_calls cs m)) (sym (trail_calls cs t)) (follows ps (moves cs) m t h);
-      back = subst2 (Follows (page_protected ps 1)) (sym (trail_calls cs t)) (sym (trail_calls cs m)) (follows ps (moves cs) t m (twin_swap ps m t h));
-      steps = subst2 (WordsAgree ps) (sym (trail_calls cs m)) (sym (trail_calls cs t)) (agree ps (moves cs) m t h.pair);
-      calls = λ xs qs e f g.
-          subst2 (SameWords ps) (sym (end_calls xs m)) (sym (end_calls xs t))
-          (ends_agree ps (moves xs) m t h.pair (subst NoEntry (trail_calls xs m) f) (subst NoEntry (trail_calls xs t) g));
-    }
-  where
-    subst2 : {X : Type 0} (P : X → X → Type 0) {a b c d : X} → a ≡ b → c ≡ d → P a c → P b d
-    subst2 P {a} {b} {c} {d} e f x = subst (λ z. P z d) e (subst (λ z. P a z) f x)
+settled_off : (m : Machine) → Settled m → m.cpu.switch ≡ false → (step m).after.cpu.pp ≡ true
+settled_off m h off =
+    step_forms (λ x. x.after.cpu.pp ≡ true) m
+    (λ k d. refl)
+    (λ w. h.off off)
+    (λ x f. let q = rw off at f.pp in absurd cc)
+    (λ pp x f j. let q = rw off at f.pp in let p = h.off off in cc)
+    (λ pp f j.
+    let q = rw off at f.pp in
+    let p = h.off off in
+    let l : pp ≡ true = cc in
+    (acted (exits m.cpu.mark pp) (instruction m) (fetched pp m)).off off l)
 
--- (b) by places
-not_both : (o : Outcome) → Enters o → Executes o → ⊥
-not_both (Entered k) e r = r
-not_both Idle e r = r
-not_both (Violated x) e r = r
-not_both (Stalled x) e r = r
-not_both Uncarried e r = e
-not_both Done e r = e
-
-held_at : (xs rest : List Moment) (x : Moment) → HeldAfter (xs ++ (x ∷ rest)) → Background x → Held rest
-held_at [] rest x h b = h.0 b
-held_at (y ∷ xs) rest x h b = held_at xs rest x h.1 b
-
-held_until : (ys zs : List Moment) (z : Moment) → Held (ys ++ (z ∷ zs)) → NoEntry ys → Executes z.outcome → PProtected z.before ≡ false
-held_until [] zs z (inl e) n r = absurd (not_both z.outcome e r)
-held_until [] zs z (inr h) n r = h.0 r
-held_until (y ∷ ys) zs z (inl e) n r = absurd (n.0 e)
-held_until (y ∷ ys) zs z (inr h) n r = held_until ys zs z h.1 n.1 r
-
-entry_between : (all : List Moment) → HeldAfter all → EntryBetween all
-entry_between all h xs ys zs x z e b n r = held_until ys zs z (held_at xs (ys ++ (z ∷ zs)) x (subst HeldAfter e h) b) n r
+settled : (ms : List Move) (m : Machine) → Settled m → Settled (end m ms)
+settled [] m h = h
+settled (tick ∷ ms) m h =
+    settled ms (step m).after (record { on = λ e. settled_on m h (sym (step_switch m) ∙ e); off = λ e. settled_off m h (sym (step_switch m) ∙ e) })
+settled (poke k ∷ ms) m h = settled ms (poked k m) (record { on = h.on; off = h.off })
 
 -- THE THEOREM
-pub isolation : Isolation
-isolation m h = record {
-  confined = λ cs. subst (Each Confined) (sym (trail_calls cs m)) (each Confined step_confined (moves cs) m h.switch);
-  held = λ cs. subst EntryBetween (sym (trail_calls cs m)) (entry_between (trail m (moves cs)) (held_after (moves cs) m h.switch));
-  by_cell = λ cs. subst (Each ByCell) (sym (trail_calls cs m)) (each ByCell step_by_cell (moves cs) m h.switch);
-  indistinct = λ t g ms ts cs x y c.
-      indistinct (after_calls ms m) (after_calls ts t)
-      (twin (after_calls ms m) (after_calls ts t) (still_on ms m h.switch) (still_on ts t g.switch) x y c) cs;
+subst2 : {X : Type 0} (P : X → X → Type 0) {a b c d : X} → a ≡ b → c ≡ d → P a c → P b d
+subst2 P {a} {b} {c} {d} e f x = subst (λ z. P z d) e (subst (λ z. P a z) f x)
+
+pub wider : Wider
+wider = record {
+  contained = λ m on cs. subst (Each Contained) (sym (trail_calls cs m)) (each Contained step_contained (moves cs) m on);
+  held = λ m on cs. subst EntryNeeded (sym (trail_calls cs m)) (entry_needed (trail m (moves cs)) (held_after (moves cs) m on));
+  by_cell = λ m cs. subst (Each ByCell) (sym (trail_calls cs m)) (each_any ByCell step_by_cell (moves cs) m);
+  entries = λ m t x y c cs.
+      subst2 (SameEntry (SameCells m t)) (sym (trail_calls cs m)) (sym (trail_calls cs t))
+      (entries_agree (SameCells m t) m.cpu.guard.protection (λ a. a.1) (moves cs) m t (record { here = x; there = y; alike = c }) (λ a. pair m t x y a.0));
+  steps = λ m t x y c cs.
+      let ps = m.cpu.guard.protection in
+      subst2 (WordsAgree ps) (sym (trail_calls cs m)) (sym (trail_calls cs t)) (agree ps (moves cs) m t (pair m t x y c));
+  calls = λ m t x y c cs f g.
+      let ps = m.cpu.guard.protection in
+      subst2 (SameWords ps) (sym (end_calls cs m)) (sym (end_calls cs t))
+      (ends_agree ps (moves cs) m t (pair m t x y c) (subst NoEntry (trail_calls cs m) f) (subst NoEntry (trail_calls cs t) g));
+  switch = λ m cs. ap (λ (x : Machine). x.cpu.switch) (end_calls cs m) ∙ end_switch (moves cs) m;
+  unmarked = λ m p cs.
+      subst (λ (x : Machine). x.cpu.pp ≡ false → exit_marked x.cpu.mark ≡ false) (sym (end_calls cs m))
+      (by_switch (settled (moves cs) m (record { on = λ _ f. absurd (both_ways m.cpu.pp f p); off = λ _. p })));
 }
   where
-    still_on : (cs : List Call) (m : Machine) → m.cpu.switch ≡ true → (after_calls cs m).cpu.switch ≡ true
-    still_on cs m on = ap (λ (x : Machine). x.cpu.switch) (end_calls cs m) ∙ end_switch (moves cs) m on
+    by_switch : {m : Machine} → Settled m → m.cpu.pp ≡ false → exit_marked m.cpu.mark ≡ false
+    by_switch {m} h f = go m.cpu.switch refl
+      where
+        go : (b : Bool) → m.cpu.switch ≡ b → exit_marked m.cpu.mark ≡ false
+        go true e = h.on e f
+        go false e = absurd (both_ways m.cpu.pp f (h.off e))
+
+-- THE LAW OF A MACHINE SET GOING
+
+-- a background step is not of the foreground
+run_or_fault : (o : Outcome) → Executes o ⊎ Faults o → Enters o → ⊥
+run_or_fault (Entered k) h e = ⊎_elim (λ x. x) (λ x. x) h
+run_or_fault o h e = e
+
+barred : (o : Outcome) → Barred o → (Enters o → ⊥) × (Executes o → ⊥)
+barred (Violated x) h = (λ e. e, λ e. e)
+barred (Stalled x) h = (λ e. e, λ e. e)
+barred o h = absurd h
+
+not_foreground : (x : Moment) → Background x → NotForeground x
+not_foreground x (inl h) = (run_or_fault x.outcome h.0, λ _. h.1)
+not_foreground x (inr h) = let b = barred x.outcome h in (b.0, λ r. absurd (b.1 r))
+
+confined : (x : Moment) → Contained x → Confined x
+confined x h b = (h (not_foreground x b)).0
+
+pub step_confined : (m : Machine) → m.cpu.switch ≡ true → Confined (step m)
+step_confined m on = confined (step m) (step_contained m on)
+
+all_confined : (xs : List Moment) → Each Contained xs → Each Confined xs
+all_confined [] h = tt
+all_confined (x ∷ xs) h = (confined x h.0, all_confined xs h.1)
+
+clean : (n : ℕ) (xs : List Moment) → Clean n xs → NoViolation n xs
+clean zero xs h = tt
+clean (suc n) [] h = tt
+clean (suc n) (x ∷ xs) h = (λ v. h.0 (fault x.outcome v), clean n xs h.1)
+
+follows : (A : Type 0) (b : Bool) → (b ≡ true → A) → (xs ys : List Moment) → SameEntry A xs ys → Follows b xs ys
+follows A b a xs ys h n k p e f g = let z = h n k p e (clean n xs f) (clean n ys g) in (z.0, z.1, λ l. z.2 (a l))
+
+pub isolation : Isolation
+isolation m h = record {
+  confined = λ cs. all_confined (steps_of cs m) (wider.contained m h.switch cs);
+  held = λ cs xs ys zs x z e b. wider.held m h.switch cs xs ys zs x z e (not_foreground x b);
+  by_cell = wider.by_cell m;
+  indistinct = λ t g ms ts cs x y c.
+      let m' = after_calls ms m in
+      let t' = after_calls ts t in
+      let here : Guarded m' = record { switch = wider.switch m ms ∙ h.switch; away = inl x.pp } in
+      let there : Guarded t' = record { switch = wider.switch t ts ∙ g.switch; away = inl y.pp } in
+      let levels : SameLevels m' t' =
+      record { ii = c.ii; ei = c.ei; levels = c.levels; exit = ap exit_marked (x.mark ∙ sym y.mark) }
+      in
+      let same : SameProtected m' t' = record { protection = c.protection; words = c.words } in
+      let swapped : SameProtected t' m' = record { protection = sym c.protection; words = λ a l. sym (c.words a (rw c.protection l)) } in
+      record {
+        there = follows _ _ (λ l. (same, l)) _ _ (wider.entries m' t' here there levels cs);
+        back = follows _ _ (λ l. (swapped, rw (← c.protection) l)) _ _ (wider.entries t' m' there here (same_back m' t' levels) cs);
+        steps = wider.steps m' t' here there same cs;
+        calls = λ ps qs e. wider.calls m' t' here there same ps;
+      };
+}

@@ -56,11 +56,11 @@ abbrev pub Follows : Bool → List Moment → List Moment → Type 0
 Follows page_1 xs ys =
     (n k p : ℕ) → EntersFirst xs n k p → Clean n xs → Clean n ys → (q : ℕ) × EntersFirst ys n k q × (page_1 ≡ true → q ≡ p)
 
--- until either enters, the protected words are equal after every step
+-- the steps are equally many and, until either enters, the protected words are equal after every step
 abbrev pub WordsAgree : List ℕ → List Moment → List Moment → Type 0
 WordsAgree ps [] [] = Unit {0}
-WordsAgree ps [] (y ∷ ys) = Unit {0}
-WordsAgree ps (x ∷ xs) [] = Unit {0}
+WordsAgree ps [] (y ∷ ys) = ⊥
+WordsAgree ps (x ∷ xs) [] = ⊥
 WordsAgree ps (x ∷ xs) (y ∷ ys) =
     (Enters x.outcome → ⊥) → (Enters y.outcome → ⊥) → SameWords ps x.after y.after × WordsAgree ps xs ys
 

@@ -1,7 +1,18 @@
 use Rattle.std.proofs.Common.{refl}
 use Rattle.isolation.proofs.Examples.{agrees, stalls, violates}
-use Rattle.isolation.proofs.Theorem.{isolation}
+use Rattle.isolation.proofs.Needed.{needed}
+use Rattle.isolation.proofs.Sharp.{sharp}
+use Rattle.isolation.proofs.Theorem.{isolation, wider}
 use Rattle.isolation.proofs.isolation_stands.Goals as goal
 
 pub returns : goal.returns
-returns c = record { answer = refl; law = isolation; violates = violates; agrees = agrees; stalls = stalls }
+returns c = record {
+  answer = refl;
+  law = isolation;
+  wider = wider;
+  needed = needed;
+  sharp = sharp;
+  violates = violates;
+  agrees = agrees;
+  stalls = stalls;
+}

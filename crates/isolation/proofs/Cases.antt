@@ -17,8 +17,8 @@ use Rattle.levels.specs.Levels.{is_active, level_at, next_state, told}
 use Rattle.machine.specs.State.{Machine}
 use Rattle.machine.specs.Step.{Class, Moment, act, by_entry, by_fetch, by_judgement, by_mark, carried, class, due, enter, exits, fetch_pp, fetched, instruction, judge, none_such, on_work, plain, privileged, stalls, step, store, stores, violated, violation}
 use Rattle.machine.specs.Words.{protects}
-use Rattle.isolation.specs.Steps.{Enters, Executes, PProtected, SameWords, zero_waiting}
-use Rattle.isolation.specs.Wider.{IsViolation, exit_marked}
+use Rattle.isolation.specs.Steps.{Enters, Executes, IsViolation, PProtected, SameWords, zero_waiting}
+use Rattle.isolation.specs.Wider.{exit_marked}
 
 -- a step from m, with its outcome and the machine after it
 abbrev pub from : Machine → Outcome → Machine → Moment

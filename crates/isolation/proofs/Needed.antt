@@ -15,7 +15,7 @@ nothing_protected a e = false≢true (sym (ap (λ w. eqb (w % 2) 1) (zero-div (2
 pub guard : GuardNeeded
 unfolding machine page_0 page_1 armed stores_1 stores_page_1 inhibits quiet step instruction_at lowest
 guard = record {
-  contained = λ h. eqb-false 7 0 refl ((h.0 (λ x. x, λ x. refl)).0.words 0x0100 refl);
+  contained = λ h. eqb-false 7 0 refl ((h.0 (λ x. x, λ x. refl)).words 0x0100 refl);
   held = λ h. false≢true (sym (h [] [] [] _ _ refl (λ x. x, λ x. refl) tt tt));
   entry_switch = record {
     here = record { switch = refl; away = inl refl };

@@ -9,8 +9,8 @@ use Rattle.levels.specs.Levels.{level_at}
 use Rattle.machine.specs.Step.{Moment}
 use Rattle.isolation.specs.Isolation.{Follows, Unchanged}
 use Rattle.isolation.specs.Sharp.{Agree, Among, Keeps, Sharp, SharpIsolated, SharpPairs, SharpSteps, SharpWider}
-use Rattle.isolation.specs.Steps.{Each, Enters, Faults, NoEntry, zero_waiting}
-use Rattle.isolation.specs.Wider.{IsViolation, SameEntry, exit_marked}
+use Rattle.isolation.specs.Steps.{Each, Enters, Faults, IsViolation, NoEntry, zero_waiting}
+use Rattle.isolation.specs.Wider.{SameEntry, exit_marked}
 
 -- THE WORDS OF STEPS
 pub no_entries : (xs : List Moment) → ((x : Moment) → Among x xs → Enters x.outcome → ⊥) → NoEntry xs
@@ -64,6 +64,7 @@ keeps x h =
           ⊎_elim (λ e. inl (ap (λ ks. (level_at ks 0).state) e))
           (λ e. let f = ap (λ (ks : List Level). (level_at ks 0).state) e.1 in ⊎_elim (λ s. inl (f ∙ s)) (λ s. inr (e.0, f ∙ s)) (state ls))
           h.levels;
+      levels = λ n. ⊎_elim (λ e. e) (λ v. absurd (n v.0)) h.levels;
     }
 
 -- WHAT AGREES
@@ -114,7 +115,7 @@ same_exit j k f g = refl
 
 pub wider : SharpWider
 wider = record {
-  contained = λ h m on cs x a e r. let b = at_step _ _ x a (h.contained m on cs) (e, r) in (keeps x b.0, b.1);
+  contained = λ h m on cs x a e r. keeps x (at_step _ _ x a (h.contained m on cs) (e, r));
   held = λ h m on cs xs ys zs x z q e r n s l. both_ways _ (h.held m on cs xs ys zs x z q (e, r) n s) l;
   by_cell = λ h m cs x a. at_step _ _ x a (h.by_cell m cs);
   guarded = λ m on a. record { switch = on; away = a };

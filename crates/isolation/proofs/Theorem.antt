@@ -19,9 +19,9 @@ use Rattle.machine.specs.Calls.{Move, after_calls, end, poke, poked, tick, trail
 use Rattle.machine.specs.State.{Guard, Machine}
 use Rattle.machine.specs.Step.{Class, Moment, act, by_entry, carried, class, due, enter, exits, fetched, instruction, none_such, on_cpu, stalls, step, write_function}
 use Rattle.machine.specs.Words.{page_protected, protects, read, word}
-use Rattle.isolation.specs.Steps.{Background, Barred, Clean, Each, Enters, Executes, Faults, NoEntry, PProtected, SameWords, steps_of}
+use Rattle.isolation.specs.Steps.{Background, Barred, Clean, Each, Enters, Executes, Faults, IsViolation, NoEntry, PProtected, SameWords, steps_of}
 use Rattle.isolation.specs.Isolation.{ByCell, Confined, Follows, Isolation, WordsAgree}
-use Rattle.isolation.specs.Wider.{Contained, EntryNeeded, Guarded, IsViolation, NoViolation, NotForeground, SameCells, SameEntry, SameLevels, SameProtected, Wider, exit_marked}
+use Rattle.isolation.specs.Wider.{Contained, EntryNeeded, Guarded, NoViolation, NotForeground, SameCells, SameEntry, SameLevels, SameProtected, Wider, exit_marked}
 use Rattle.isolation.proofs.Cases.{Tame, from, no_entry, step_cases, step_forms}
 use Rattle.isolation.proofs.Moves.{end_calls, moves, trail_calls}
 
@@ -105,16 +105,8 @@ tame m on =
 
 step_contained : (m : Machine) → m.cpu.switch ≡ true → Contained (step m)
 step_contained m on b =
-    let h = tame m on b in (
-      record {
-        words = h.words;
-        protection = h.protection;
-        ii = h.ii;
-        ei = h.ei;
-        levels = ⊎_elim inl (λ v. inr (fault (step m).outcome v.0, v.1)) h.levels;
-      },
-      λ n. first h.levels (λ v. n v.0),
-    )
+    let h = tame m on b in
+    record { words = h.words; protection = h.protection; ii = h.ii; ei = h.ei; levels = h.levels }
 
 -- (b)
 guarded_after : (m : Machine) → m.cpu.switch ≡ true → NotForeground (step m) → Guarded (step m).after
@@ -440,7 +432,7 @@ not_foreground x (inl h) = (run_or_fault x.outcome h.0, λ _. h.1)
 not_foreground x (inr h) = let b = barred x.outcome h in (b.0, λ r. absurd (b.1 r))
 
 confined : (x : Moment) → Contained x → Confined x
-confined x h b = (h (not_foreground x b)).0
+confined x h b = h (not_foreground x b)
 
 pub step_confined : (m : Machine) → m.cpu.switch ≡ true → Confined (step m)
 step_confined m on = confined (step m) (step_contained m on)

@@ -7,19 +7,21 @@ use Rattle.machine.specs.Calls.{after_calls}
 use Rattle.machine.specs.State.{Machine}
 use Rattle.machine.specs.Step.{Moment}
 use Rattle.machine.specs.Words.{page_protected, read, word}
-use Rattle.isolation.specs.Steps.{Background, Clean, Each, Enters, EntersFirst, Executes, Faults, NoEntry, PProtected, SameWords, steps_of, zero_waiting}
+use Rattle.isolation.specs.Steps.{Background, Clean, Each, Enters, EntersFirst, Executes, IsViolation, NoEntry, PProtected, SameWords, steps_of, zero_waiting}
 
 -- (a) WHAT A BACKGROUND STEP CANNOT CHANGE
 
--- the protected words, the protection registers, the inhibits and the levels are as they were; but a violation may set level 0 waiting
+-- the protected words, the protection registers, the inhibits and the levels are as they were; but a violation may set level 0 waiting,
+-- which a stall leaves active
 pub record Unchanged (x : Moment) : Type 0 where
   pub words : SameWords x.before.cpu.guard.protection x.before x.after
   pub protection : x.after.cpu.guard.protection ≡ x.before.cpu.guard.protection
   pub ii : x.after.cpu.guard.ii ≡ x.before.cpu.guard.ii
   pub ei : x.after.cpu.guard.ei ≡ x.before.cpu.guard.ei
   pub levels : (x.after.cpu.guard.levels ≡ x.before.cpu.guard.levels)
-      ⊎ (Faults x.outcome × (x.after.cpu.guard.levels ≡ zero_waiting x.before.cpu.guard.levels))
+      ⊎ (IsViolation x.outcome × (x.after.cpu.guard.levels ≡ zero_waiting x.before.cpu.guard.levels))
 
+-- a background step changes none of it
 abbrev pub Confined : Moment → Type 0
 Confined x = Background x → Unchanged x
 
@@ -64,10 +66,12 @@ WordsAgree ps (x ∷ xs) [] = ⊥
 WordsAgree ps (x ∷ xs) (y ∷ ys) =
     (Enters x.outcome → ⊥) → (Enters y.outcome → ⊥) → SameWords ps x.after y.after × WordsAgree ps xs ys
 
--- two machines that get the same calls
+-- two machines that get the same calls: what is seen of the one is seen of the other
 pub record Indistinct (m t : Machine) (cs : List Call) : Type 0 where
+  -- the first entry of either is that of the other
   pub there : Follows (page_protected m.cpu.guard.protection 1) (steps_of cs m) (steps_of cs t)
   pub back : Follows (page_protected m.cpu.guard.protection 1) (steps_of cs t) (steps_of cs m)
+  -- the protected words stay equal after every step
   pub steps : WordsAgree m.cpu.guard.protection (steps_of cs m) (steps_of cs t)
   -- and after every call
   pub calls : (ps qs : List Call) → cs ≡ ps ++ qs → NoEntry (steps_of ps m) → NoEntry (steps_of ps t)
@@ -83,12 +87,16 @@ pub record SetGoing (m : Machine) : Type 0 where
 
 -- the law for a machine m, any list of calls, and any second machine t
 pub record Isolated (m : Machine) : Type 0 where
+  -- (a)
   pub confined : (cs : List Call) → Each Confined (steps_of cs m)
+  -- (b)
   pub held : (cs : List Call) → EntryBetween (steps_of cs m)
   pub by_cell : (cs : List Call) → Each ByCell (steps_of cs m)
+  -- (c) after calls ms of m and ts of t that leave both in their background and alike, both get the calls cs
   pub indistinct : (t : Machine) → SetGoing t → (ms ts cs : List Call)
       → InBackground (after_calls ms m) → InBackground (after_calls ts t) → Alike (after_calls ms m) (after_calls ts t)
       → Indistinct (after_calls ms m) (after_calls ts t) cs
 
+-- every machine that is set going is isolated
 abbrev pub Isolation : Type 0
 Isolation = (m : Machine) → SetGoing m → Isolated m

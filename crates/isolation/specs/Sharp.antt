@@ -14,8 +14,8 @@ use Rattle.machine.specs.State.{Machine}
 use Rattle.machine.specs.Step.{Moment, step}
 use Rattle.machine.specs.Words.{page_protected, protects, read, word}
 use Rattle.isolation.specs.Isolation.{Follows, Indistinct, Isolated, Isolation, WordsAgree}
-use Rattle.isolation.specs.Steps.{Background, Enters, Executes, Faults, NoEntry, SameWords, steps_of}
-use Rattle.isolation.specs.Wider.{Guarded, IsViolation, SameCells, SameEntry, SameLevels, SameProtected, Wider}
+use Rattle.isolation.specs.Steps.{Background, Enters, Executes, Faults, IsViolation, NoEntry, SameWords, steps_of}
+use Rattle.isolation.specs.Wider.{Guarded, SameCells, SameEntry, SameLevels, SameProtected, Wider}
 
 -- a statement that holds, or does not
 abbrev pub Says : Bool → Type 0 → Type 0
@@ -65,7 +65,9 @@ pub record Keeps (x : Moment) : Type 0 where
   pub others : (k : ℕ) → level_at x.after.cpu.guard.levels (suc k) ≡ level_at x.before.cpu.guard.levels (suc k)
   pub enabled : (level_at x.after.cpu.guard.levels 0).enabled ≡ (level_at x.before.cpu.guard.levels 0).enabled
   pub state : ((level_at x.after.cpu.guard.levels 0).state ≡ (level_at x.before.cpu.guard.levels 0).state)
-      ⊎ (Faults x.outcome × ((level_at x.after.cpu.guard.levels 0).state ≡ Waiting))
+      ⊎ (IsViolation x.outcome × ((level_at x.after.cpu.guard.levels 0).state ≡ Waiting))
+  -- and where it is no violation, a stall too, no level is changed
+  pub levels : (IsViolation x.outcome → ⊥) → x.after.cpu.guard.levels ≡ x.before.cpu.guard.levels
 
 -- how first entries agree: A is for their addresses, and N for the steps that excuse
 pub record Agree (F : List Moment → List Moment → Type 0) (N : Outcome → Type 0) (A : Type 0) : Type 0 where
@@ -106,10 +108,8 @@ pub record SharpIsolated : Type 0 where
 
 -- THE LAW WITH THE FEWEST PREMISES
 pub record SharpWider : Type 0 where
-  -- and of a step that is no violation, a stall too, no level is changed
   pub contained : Wider → (m : Machine) → m.cpu.switch ≡ true → (cs : List Call) (x : Moment) → Among x (steps_of cs m)
-      → (Enters x.outcome → ⊥) → (Executes x.outcome → FromProtected x ≡ false)
-      → Keeps x × ((IsViolation x.outcome → ⊥) → x.after.cpu.guard.levels ≡ x.before.cpu.guard.levels)
+      → (Enters x.outcome → ⊥) → (Executes x.outcome → FromProtected x ≡ false) → Keeps x
   pub held : Wider → (m : Machine) → m.cpu.switch ≡ true → (cs : List Call) (xs ys zs : List Moment) (x z : Moment)
       → steps_of cs m ≡ xs ++ (x ∷ (ys ++ (z ∷ zs))) → (Enters x.outcome → ⊥) → (Executes x.outcome → FromProtected x ≡ false)
       → NoEntry ys → Executes z.outcome → FromProtected z ≡ true → ⊥

@@ -35,6 +35,15 @@ Faults (Stalled x) = Unit {0}
 Faults NotCarried = ⊥
 Faults Done = ⊥
 
+-- the step was a violation; a stall is none
+abbrev pub IsViolation : Outcome → Type 0
+IsViolation (Entered k) = ⊥
+IsViolation Idle = ⊥
+IsViolation (Violated x) = Unit {0}
+IsViolation (Stalled x) = ⊥
+IsViolation NotCarried = ⊥
+IsViolation Done = ⊥
+
 -- the step executed an instruction: it was done, or its code is not carried
 abbrev pub Executes : Outcome → Type 0
 Executes (Entered k) = ⊥

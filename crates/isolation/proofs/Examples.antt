@@ -6,7 +6,7 @@ use Rattle.std.proofs.lemmas.Bool.{and_parts, cases_eq, cases_lt, eqb-true, fals
 use Rattle.levels.specs.Levels.{lowest}
 use Rattle.machine.specs.Step.{instruction_at, step}
 use Rattle.machine.specs.Words.{page_protected, protects, read}
-use Rattle.isolation.specs.Examples.{Agrees, Stalls, Violates, active, four, going, one, other_program, program, three, two}
+use Rattle.isolation.specs.Examples.{Agrees, GoesOn, Stalls, Violates, active, four, going, one, other_program, program, three, two}
 
 -- a test that holds of each number below n
 all_below : (ℕ → Bool) → ℕ → Bool
@@ -39,6 +39,10 @@ only_1 p e =
 pub violates : Violates
 unfolding going program active step instruction_at lowest
 violates = record { going_on = record { pp = refl; last = refl; switch = refl }; steps = refl }
+
+pub goes_on : GoesOn
+unfolding going program step instruction_at lowest
+goes_on = record { going_on = record { pp = refl; last = refl; switch = refl }; steps = refl; first = inl (inl tt, refl); second = tt }
 
 program_length : length program ≡ 8192
 unfolding program

@@ -13,10 +13,10 @@ use Rattle.machine.specs.declared.state.ViolationKind.TheVariants.{Store}
 use Rattle.machine.specs.Calls.{after_calls, answer}
 use Rattle.levels.specs.Levels.{preset}
 use Rattle.machine.specs.State.{Machine}
-use Rattle.machine.specs.Step.{Moment}
+use Rattle.machine.specs.Step.{Moment, step}
 use Rattle.machine.specs.Words.{page_protected}
 use Rattle.isolation.specs.Isolation.{Alike, InBackground, SetGoing}
-use Rattle.isolation.specs.Steps.{Clean, EntersFirst, steps_of}
+use Rattle.isolation.specs.Steps.{Background, Clean, EntersFirst, Executes, steps_of}
 
 -- what the steps of a list of calls are
 abbrev pub outcomes : List Call → Machine → List Outcome
@@ -57,16 +57,27 @@ pub record Violates : Type 0 where
   pub steps : outcomes (Run 3 ∷ []) (going 0 0x00f0 (preset 2) program)
       ≡ Done ∷ Violated (record { kind = Store; place = 0x0201; aim = 0x0100 }) ∷ Entered 0 ∷ []
 
+-- TWO BACKGROUND STEPS, the second executed with no entry between: it may be, since its page is not protected
+pub record GoesOn : Type 0 where
+  pub going_on : SetGoing (going 1 0 (preset 2) program)
+  pub steps : let m = going 1 0 (preset 2) program in steps_of (Run 2 ∷ []) m ≡ [] ++ (step m ∷ ([] ++ (step (step m).after ∷ [])))
+  pub first : Background (step (going 1 0 (preset 2) program))
+  pub second : Executes (step (step (going 1 0 (preset 2) program)).after).outcome
+
 -- TWO MACHINES OF DIFFERENT SIZES, WORDS, REGISTERS AND PASTS, and the calls that both get
+-- the first of the two, after a step
 unfoldable pub one : Machine
 one = after_calls (Step ∷ []) (going 1 0 (preset 2) program)
 
+-- the second, after three steps and a look
 unfoldable pub two : Machine
 two = after_calls (Run 2 ∷ Registers ∷ Step ∷ []) (going 9 1 (preset 2) other_program)
 
+-- the calls: to the first the look at 0x3000 is refused
 abbrev pub calls : List Call
 calls = Run 2 ∷ Run 1000001 ∷ Word 0x3000 ∷ Signal 3 ∷ Step ∷ []
 
+-- they are alike in their backgrounds, and both enter level 3
 pub record Agrees : Type 0 where
   pub here : SetGoing (going 1 0 (preset 2) program)
   pub there : SetGoing (going 9 1 (preset 2) other_program)
@@ -84,12 +95,15 @@ pub record Agrees : Type 0 where
   pub there_clean : Clean 2 (steps_of calls two)
 
 -- TWO MACHINES WITH LEVEL 0 ACTIVE, OF WHICH ONE STALLS
+-- the one whose STA aims at page 1, after a step
 unfoldable pub three : Machine
 three = after_calls (Step ∷ []) (going 1 0x00f0 active program)
 
+-- the one whose STA aims at page 0, after a step
 unfoldable pub four : Machine
 four = after_calls (Step ∷ []) (going 1 0 active program)
 
+-- they are alike in their backgrounds, and the first stalls
 pub record Stalls : Type 0 where
   pub here : SetGoing (going 1 0x00f0 active program)
   pub there : SetGoing (going 1 0 active program)

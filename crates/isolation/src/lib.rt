@@ -2,7 +2,7 @@
 #![tactic(auto)]
 
 ghost use Rattle.std.specs.Prelude.{◌≡◌, true};
-ghost use Rattle.isolation.specs.Examples.{Agrees, Stalls, Violates};
+ghost use Rattle.isolation.specs.Examples.{Agrees, GoesOn, Stalls, Violates};
 ghost use Rattle.isolation.specs.Isolation.{Isolation};
 ghost use Rattle.isolation.specs.Needed.{Needed};
 ghost use Rattle.isolation.specs.Sharp.{Sharp};
@@ -17,6 +17,7 @@ pub fn isolation_stands() -> bool
     ensures needed { Needed }
     ensures sharp { Sharp }
     ensures violates { Violates }
+    ensures goes_on { GoesOn }
     ensures agrees { Agrees }
     ensures stalls { Stalls }
 {

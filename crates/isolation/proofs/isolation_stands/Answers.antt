@@ -1,5 +1,5 @@
 use Rattle.std.proofs.Common.{refl}
-use Rattle.isolation.proofs.Examples.{agrees, stalls, violates}
+use Rattle.isolation.proofs.Examples.{agrees, goes_on, stalls, violates}
 use Rattle.isolation.proofs.Needed.{needed}
 use Rattle.isolation.proofs.Sharp.{sharp}
 use Rattle.isolation.proofs.Theorem.{isolation, wider}
@@ -13,6 +13,7 @@ returns c = record {
   needed = needed;
   sharp = sharp;
   violates = violates;
+  goes_on = goes_on;
   agrees = agrees;
   stalls = stalls;
 }

@@ -5,6 +5,7 @@ pub mod Interrupts
 pub mod Violations
 pub mod Calling
 pub mod Plans
+pub mod Images
 pub mod Bank
 pub mod Laws
 pub mod Steps

@@ -6,6 +6,7 @@ pub mod Interrupts
 pub mod Violations
 pub mod Calling
 pub mod Plans
+pub mod Images
 pub mod Laws
 pub mod Steps
 pub mod Runs

@@ -5,6 +5,7 @@ ghost use Rattle.std.specs.Prelude.{◌≡◌, true};
 ghost use Rattle.worked.specs.Calling.{Begins, Called};
 ghost use Rattle.worked.specs.Cases.{Cases};
 ghost use Rattle.worked.specs.Functions.{Controls, Functions};
+ghost use Rattle.worked.specs.Images.{Images};
 ghost use Rattle.worked.specs.Instructions.{Addresses, Branches, Copies, Instructions};
 ghost use Rattle.worked.specs.Interrupts.{Entries, Exits, Levels};
 ghost use Rattle.worked.specs.Laws.{Laws};
@@ -32,6 +33,7 @@ pub fn worked_cases_hold() -> bool
     ensures begins { Begins }
     ensures called { Called }
     ensures plans { Plans }
+    ensures images { Images }
     ensures laws { Laws }
     ensures steps { Steps }
     ensures runs { Runs }

@@ -1,6 +1,7 @@
 use Rattle.std.proofs.Common.{refl}
 use Rattle.worked.proofs.Calling.{begins, called}
 use Rattle.worked.proofs.Functions.{controls, functions}
+use Rattle.worked.proofs.Images.{images}
 use Rattle.worked.proofs.Instructions.{addresses, branches, copies, instructions}
 use Rattle.worked.proofs.Interrupts.{entries, exits, levels}
 use Rattle.worked.proofs.Laws.{laws}
@@ -30,6 +31,7 @@ returns c = record {
   begins = begins;
   called = called;
   plans = plans;
+  images = images;
   laws = laws;
   steps = steps;
   runs = runs;

@@ -1,10 +1,10 @@
 //! One step.
 ghost use Rattle.std.specs.Prelude.{◌≡◌, true, Some};
 ghost use Rattle.machine.specs.Decode.{address as addressed, relative};
-ghost use Rattle.machine.specs.Step.{at_fetch, by_fetch, enter, exits, fetched, index, instruction_at, permitted, step as stepped};
+ghost use Rattle.machine.specs.Step.{at_fetch, by_fetch, enter, exits, fetched, index, instruction_at, judgement, permitted, step as stepped};
 ghost use Rattle.machine.specs.Words.{read as word_at};
 ghost use Rattle.isolation.specs.Isolation.{Confined};
-ghost use Rattle.engine.specs.Steps.{executed, judgement};
+ghost use Rattle.engine.specs.Steps.{unless_found};
 ghost use Rattle.engine.specs.View.{seen};
 
 use crate::processor::{Processor, Running};
@@ -41,7 +41,7 @@ impl<M: Memory> Processor<Running, M> {
     // Judges an instruction at P and carries it out, at the PP that its fetch leaves. One match decides all, since each step makes it.
     fn execute(&mut self, pp: bool, instruction: Instruction) -> Result<(), Violation>
         ensures answer { result ≡ permitted (judgement pp instruction (seen M.words self.old)) }
-        ensures after { seen M.words self.new ≡ executed (judgement pp instruction (seen M.words self.old)) pp instruction (seen M.words self.old) }
+        ensures after { seen M.words self.new ≡ unless_found (judgement pp instruction (seen M.words self.old)) pp instruction (seen M.words self.old) }
         ensures outside { M.outer self.new.memory ≡ M.outer self.old.memory }
     {
         match instruction {

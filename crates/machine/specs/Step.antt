@@ -217,20 +217,23 @@ carried none_such = Uncarried
 
 -- THE STEP
 
+-- the violation, if any, of an instruction at P, by the PP that its fetch leaves: it is of the background where that is 0, with the switch on
+abbrev pub judgement : Bool → Instruction → Machine → Option Violation
+judgement pp x m = judge (m.cpu.switch && not pp) m.cpu.guard.protection m.cpu.work.p (class x)
+
+-- the machine after an instruction that is let through: it acts after its fetch
+abbrev pub executed : Bool → Instruction → Machine → Machine
+executed pp x m = act (exits m.cpu.mark pp) x (fetched pp m)
+
 -- a violation, or else the instruction is carried out
 abbrev pub by_judgement : Option Violation → Bool → Machine → Moment
 by_judgement (Some x) pp m = violated pp x m
-by_judgement None pp m = record {
-  before = m;
-  outcome = carried (class (instruction m));
-  after = act (exits m.cpu.mark pp) (instruction m) (fetched pp m);
-}
+by_judgement None pp m = record { before = m; outcome = carried (class (instruction m)); after = executed pp (instruction m) m }
 
--- a background instruction is one that PP 0 is left for, with the switch on
+-- an entry violation, or else the instruction at P
 abbrev pub by_fetch : Option Bool → Machine → Moment
 by_fetch None m = violated false (record { kind = Entry; place = m.cpu.last; aim = m.cpu.work.p }) m
-by_fetch (Some pp) m =
-    by_judgement (judge (m.cpu.switch && not pp) m.cpu.guard.protection m.cpu.work.p (class (instruction m))) pp m
+by_fetch (Some pp) m = by_judgement (judgement pp (instruction m) m) pp m
 
 -- the fetch at P
 abbrev pub at_fetch : Machine → Moment

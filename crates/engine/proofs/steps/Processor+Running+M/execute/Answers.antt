@@ -1,9 +1,9 @@
 use Rattle.std.proofs.Common.{sym, ap, ◌∙◌}
 use Rattle.machine.specs.State.{set_work}
-use Rattle.machine.specs.Step.{on_work}
+use Rattle.machine.specs.Step.{judgement, on_work}
 use Rattle.machine.specs.View.{cpu_of}
 use Rattle.machine.specs.Work.{copied}
-use Rattle.engine.specs.Steps.{executed, judgement}
+use Rattle.engine.specs.Steps.{unless_found}
 use Rattle.engine.specs.View.{seen}
 use Rattle.engine.proofs.steps.Processor+Running+M.execute.Goals as goal
 
@@ -14,4 +14,4 @@ returns-in-Copy-clause-after g c =
     let pp = c.args.pp in
     ap (λ v. record { cpu = set_work v (cpu_of c.fetch-in-Copy.new.self); words = ws }) c.copy.ensures
     ∙ ap (λ s. on_work (copied c.in-Copy.transfer) (record { cpu = s; words = ws })) c.fetch-in-Copy.ensures
-    ∙ ap (λ x. executed (judgement pp x m) pp x m) (sym c.in-Copy.is)
+    ∙ ap (λ x. unless_found (judgement pp x m) pp x m) (sym c.in-Copy.is)

@@ -4,8 +4,9 @@ use Rattle.std.proofs.lemmas.List.{drop_all, drop_more, get_or-drop, length-appe
 use Rattle.std.proofs.lemmas.Bool.Decides.{nat_tests}
 use Rattle.image.specs.declared.Cause.TheVariants.{UnknownKind, CutShort, AfterEnd}
 use Rattle.image.specs.declared.Fault.{Fault}
+use Rattle.image.specs.declared.Layer.TheVariants.{Storing}
 use Rattle.image.specs.declared.Record.{Record}
-use Rattle.image.specs.Format.{encode_record, fault, kind_size, storing}
+use Rattle.image.specs.Format.{encode_record, fault, fault_layer, kind_size, storing}
 use Rattle.image.specs.Law.{Flaw, Storable, no_end, cut_short, unknown_kind, after_end}
 use Rattle.image.specs.Reading.{item_at, size}
 
@@ -16,6 +17,10 @@ Octets bs = (k : ℕ) → get_or bs k 0 < 256
 -- a record that can be stored at one place can be stored at any
 pub storable_anywhere : (limit p : ℕ) (r : Record) → storing limit p r ≡ Ok tt → Storable limit r
 storable_anywhere limit p r e q = grind (arith, nat_tests)
+
+-- a record that cannot be stored is found in storing
+pub found_in_storing : (limit p : ℕ) (r : Record) (x : Fault) → storing limit p r ≡ Err x → fault_layer x ≡ Storing
+found_in_storing limit p r x e = grind (arith, nat_tests)
 
 pub size_pos : (r : Record) → 0 < size r
 size_pos r = grind arith
@@ -45,7 +50,7 @@ module _ (bs : List ℕ) (p : ℕ) where
   end_back e = grind (arith, nat_tests, left _ e, reach _ e 0)
 
   -- a fault in reading is a flaw of the bytes from there on
-  pub faulty : (limit : ℕ) (x : Fault) → item_at bs p ≡ Err x → (l : List ℕ) → drop p bs ≡ l → Flaw limit p l x
+  pub faulty : (limit : ℕ) (x : Fault) → item_at bs p ≡ Err x → (l : List ℕ) → drop p bs ≡ l → Flaw limit p (fault_layer x) l x
   faulty limit x e [] f = let q : x ≡ fault CutShort p = grind (arith, left _ f) in rw q no_end
   faulty limit x e (k ∷ rest) f =
       by rest (grind (arith, nat_tests, left _ f, reach _ f 0))
@@ -54,7 +59,7 @@ module _ (bs : List ℕ) (p : ℕ) where
           → ((kind_size k ≡ 0) × (x ≡ fault UnknownKind p))
           ⊎ (((k ≡ 255) × (0 < length l) × (x ≡ fault AfterEnd (p + 1)))
           ⊎ ((1 + length l < kind_size k) × (x ≡ fault CutShort p)))
-          → Flaw limit p (k ∷ l) x
+          → Flaw limit p (fault_layer x) (k ∷ l) x
       by l (inl u) = rw u.1 (unknown_kind k l u.0)
       by [] (inr (inl u)) = absurd (omega arith)
       by (b ∷ l) (inr (inl u)) = rw (u.0, u.2) (after_end b l)

@@ -6,10 +6,10 @@ use Rattle.std.proofs.Math.Nat.{add-zero, add_assoc, zero-add}
 use Rattle.image.specs.declared.Cause.TheVariants.{CutShort}
 use Rattle.image.specs.declared.Fault.{Fault}
 use Rattle.image.specs.declared.Record.{Record}
-use Rattle.image.specs.Format.{encode, encode_record, encode_records, fault, storing}
+use Rattle.image.specs.Format.{encode, encode_record, encode_records, fault, fault_layer, storing}
 use Rattle.image.specs.Law.{AllStorable, Complete, Flaw, Storable, Told, not_storable}
 use Rattle.image.specs.Reading.{and_then, counted, item_at, place_after, records_from, size, verdict}
-use Rattle.image.proofs.Items.{Octets, end_back, ended, faulty, read, read_back, size_pos, storable_anywhere}
+use Rattle.image.proofs.Items.{Octets, end_back, ended, faulty, found_in_storing, read, read_back, size_pos, storable_anywhere}
 
 -- any bound that is large enough serves
 enough : (f g limit : ℕ) (bs : List ℕ) (p : ℕ) → length bs < f + p → length bs < g + p → records_from f limit bs p ≡ records_from g limit bs p
@@ -70,12 +70,12 @@ Answered limit bs r = record { answer : r ≡ counted 0 (verdict limit bs); told
 abbrev Tells : ℕ → List ℕ → ℕ → Result (List Record) Fault → Type 0
 Tells limit bs p (Ok rs) = (drop p bs ≡ encode rs) × AllStorable limit rs
 Tells limit bs p (Err x) =
-    (before : List Record) × (rest : List ℕ) × (drop p bs ≡ encode_records before ++ rest) × AllStorable limit before × Flaw limit (p + length (encode_records before)) rest x
+    (before : List Record) × (rest : List ℕ) × (drop p bs ≡ encode_records before ++ rest) × AllStorable limit before × Flaw limit (p + length (encode_records before)) (fault_layer x) rest x
 
 module _ (limit : ℕ) (bs : List ℕ) (o : Octets bs) where
   module _ (p : ℕ) where
     -- a fault at p
-    flawed : (x : Fault) → from limit bs p ≡ Err x → Flaw limit p (drop p bs) x → Tells limit bs p (from limit bs p)
+    flawed : (x : Fault) → from limit bs p ≡ Err x → Flaw limit p (fault_layer x) (drop p bs) x → Tells limit bs p (from limit bs p)
     flawed x e f = rw e ([], drop p bs, refl, tt, simp add-zero f)
 
     -- a storable record at p, before the others
@@ -88,7 +88,7 @@ module _ (limit : ℕ) (bs : List ℕ) (o : Octets bs) where
     module _ (further : (q : ℕ) → p < q → Tells limit bs q (from limit bs q)) where
       stored : (r : Record) → item_at bs p ≡ Ok (Some r) → (s : Result (Unit {0}) Fault) → storing limit p r ≡ s → Tells limit bs p (from limit bs p)
       stored r e (Ok u) s = rw (at_record limit bs p r e s) (one_more r e (storable_anywhere limit p r s) _ (further (p + size r) (omega (arith, size_pos r))))
-      stored r e (Err x) s = flawed x (at_refusal limit bs p r x e s) (rw (read bs p o r e) (not_storable r _ x s))
+      stored r e (Err x) s = flawed x (at_refusal limit bs p r x e s) (rw (read bs p o r e, found_in_storing limit p r x s) (not_storable r _ x s))
 
       item : (i : Result (Option Record) Fault) → item_at bs p ≡ i → Tells limit bs p (from limit bs p)
       item (Err x) e = flawed x (at_fault limit bs p x e) (faulty bs p limit x e _ refl)

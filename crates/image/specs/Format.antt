@@ -30,6 +30,10 @@ layer CutShort = Reading
 layer AfterEnd = Reading
 layer NoState = Storing
 
+-- the layer that found a fault
+abbrev pub fault_layer : Fault → Layer
+fault_layer x = layer x.cause
+
 -- the fault of a cause at a byte place
 abbrev pub fault : Cause → ℕ → Fault
 fault cause place = record { cause = cause; place = place }

@@ -2,8 +2,10 @@
 use Rattle.std.specs.Prelude.{◌≡◌, ℕ, ◌+◌, ◌<◌, List, [], ◌∷◌, ◌++◌, length, Ok, Err, Result}
 use Rattle.image.specs.declared.Cause.TheVariants.{UnknownKind, CutShort, AfterEnd}
 use Rattle.image.specs.declared.Fault.{Fault}
+use Rattle.image.specs.declared.Layer.{Layer}
+use Rattle.image.specs.declared.Layer.TheVariants.{Reading, Storing}
 use Rattle.image.specs.declared.Record.{Record}
-use Rattle.image.specs.Format.{encode_record, encode_records, encode, fault, kind_size, storing}
+use Rattle.image.specs.Format.{encode_record, encode_records, encode, fault, fault_layer, kind_size, storing}
 
 -- a record that can be stored beside a memory of that size, wherever it stands
 abbrev pub Storable : ℕ → Record → Type 0
@@ -14,26 +16,26 @@ abbrev pub AllStorable : ℕ → List Record → Type 0
 AllStorable size [] = Unit {0}
 AllStorable size (r ∷ rs) = Storable size r × AllStorable size rs
 
--- what is wrong with bytes that begin at a place p, where a record or the end should stand
-pub data Flaw (size p : ℕ) : List ℕ → Fault → Type 0 where
+-- what is wrong with bytes that begin at a place p, where a record or the end should stand, and the layer that finds it
+pub data Flaw (size p : ℕ) : Layer → List ℕ → Fault → Type 0 where
   -- nothing stands there
-  no_end : Flaw size p [] (fault CutShort p)
+  no_end : Flaw size p Reading [] (fault CutShort p)
   -- a record whose kind asks for more bytes than there are
-  cut_short : (k : ℕ) (rest : List ℕ) → length (k ∷ rest) < kind_size k → Flaw size p (k ∷ rest) (fault CutShort p)
+  cut_short : (k : ℕ) (rest : List ℕ) → length (k ∷ rest) < kind_size k → Flaw size p Reading (k ∷ rest) (fault CutShort p)
   -- a kind that there is not
-  unknown_kind : (k : ℕ) (rest : List ℕ) → kind_size k ≡ 0 → Flaw size p (k ∷ rest) (fault UnknownKind p)
+  unknown_kind : (k : ℕ) (rest : List ℕ) → kind_size k ≡ 0 → Flaw size p Reading (k ∷ rest) (fault UnknownKind p)
   -- the end, with a byte behind it
-  after_end : (b : ℕ) (rest : List ℕ) → Flaw size p (255 ∷ b ∷ rest) (fault AfterEnd (p + 1))
+  after_end : (b : ℕ) (rest : List ℕ) → Flaw size p Reading (255 ∷ b ∷ rest) (fault AfterEnd (p + 1))
   -- a whole record that cannot be stored
-  not_storable : (r : Record) (rest : List ℕ) (x : Fault) → storing size p r ≡ Err x → Flaw size p (encode_record r ++ rest) x
+  not_storable : (r : Record) (rest : List ℕ) (x : Fault) → storing size p r ≡ Err x → Flaw size p Storing (encode_record r ++ rest) x
 
--- the image begins with records that can be stored, and what follows them has the flaw x
+-- the image begins with records that can be stored, and what follows them has the flaw x, which the layer of x finds
 pub record Refused (size : ℕ) (bs : List ℕ) (x : Fault) : Type 0 where
   pub before : List Record
   pub rest : List ℕ
   pub split : bs ≡ encode_records before ++ rest
   pub storable : AllStorable size before
-  pub flaw : Flaw size (length (encode_records before)) rest x
+  pub flaw : Flaw size (length (encode_records before)) (fault_layer x) rest x
 
 -- the image is the encoding of n records that can be stored, and the end
 pub record Accepted (size : ℕ) (bs : List ℕ) (n : ℕ) : Type 0 where

@@ -5,7 +5,7 @@ use Rattle.image.specs.declared.Layer.{Layer}
 use Rattle.image.specs.declared.Layer.TheVariants.{Reading, Storing}
 use Rattle.image.specs.declared.Record.{Record}
 use Rattle.image.specs.declared.Record.TheVariants.{Word, Protection, Register, Level}
-use Rattle.image.specs.Format.{number, layer}
+use Rattle.image.specs.Format.{fault_layer, number}
 
 -- a hexadecimal digit, in lowercase
 abbrev pub hex_digit : ℕ → ℕ
@@ -33,4 +33,4 @@ layer_name Storing = codes "storing"
 
 -- a refused image: the number, the layer and the byte place of its fault
 abbrev pub fault_line : Fault → List ℕ
-fault_line x = codes "refused " ++ (decimal (number x.cause) ++ (codes " " ++ (layer_name (layer x.cause) ++ (codes " at " ++ decimal x.place))))
+fault_line x = codes "refused " ++ (decimal (number x.cause) ++ (codes " " ++ (layer_name (fault_layer x) ++ (codes " at " ++ decimal x.place))))

@@ -2,7 +2,7 @@
 #![tactic(auto)]
 
 ghost use Rattle.std.specs.Prelude.{◌≡◌, ℕ, ◌+◌, ◌<◌, ◌≤◌, length};
-ghost use Rattle.image.specs.Format.{number as numbered, layer as layered, storing};
+ghost use Rattle.image.specs.Format.{fault_layer, number as numbered, layer as layered, storing};
 
 mod reader;
 mod text;
@@ -63,6 +63,15 @@ impl Cause {
 pub struct Fault {
     pub cause: Cause,
     pub place: usize,
+}
+
+impl Fault {
+    /// The layer that found the fault.
+    pub fn layer(self) -> Layer
+        ensures { result ≡ fault_layer self }
+    {
+        self.cause.layer()
+    }
 }
 
 /// One record of an image; the end is no record.

@@ -35,7 +35,7 @@ impl fmt::Display for Fault {
 
     fn fmt<W: fmt::Write>(&self, f: &mut fmt::Formatter<W>) -> fmt::Result {
         let number = self.cause.number();
-        let layer = self.cause.layer();
+        let layer = self.layer();
         write!(f, "refused {number} {layer} at {}", self.place)
     }
 }

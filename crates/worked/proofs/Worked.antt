@@ -1,6 +1,7 @@
 -- The worked cases, by computation.
 use Rattle.std.proofs.Common.{refl}
 use Rattle.levels.specs.Levels.{lowest}
+use Rattle.machine.specs.Calls.{counts_of, run_trail}
 use Rattle.machine.specs.Step.{instruction_at, step}
 use Rattle.worked.specs.Cases.{Cases, ready}
 
@@ -17,4 +18,8 @@ cases = record {
   stored = refl;
   taken = refl;
   held = refl;
+  held_number = refl;
+  longest_run = λ m. (counts_of (run_trail 1000000 m), refl);
+  too_long = λ m. refl;
+  too_long_number = refl;
 }

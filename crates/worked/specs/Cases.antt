@@ -1,16 +1,20 @@
 -- Worked cases of the rules.
 use Rattle.std.specs.Prelude.{◌≡◌, ℕ, Bool, true, false, List, ◌∷◌, replicate, None, Ok, Err, slice_set}
 use Rattle.std.specs.List.{range_with_len}
+use Rattle.machine.specs.declared.call.Counts.{Counts}
 use Rattle.machine.specs.declared.call.Outcome.TheVariants.{Violated}
+use Rattle.machine.specs.declared.refusal.Refusal.TheVariants.{RunTooLong}
 use Rattle.machine.specs.declared.state.Mark.TheVariants.{Unset}
 use Rattle.machine.specs.declared.state.ViolationKind.TheVariants.{Store}
 use Rattle.machine.specs.declared.work.Work.{Work}
+use Rattle.machine.specs.Calls.{run_answer}
 use Rattle.machine.specs.Decode.{effective}
+use Rattle.machine.specs.Refusals.{number}
 use Rattle.levels.specs.Levels.{preset}
 use Rattle.machine.specs.State.{Machine}
 use Rattle.machine.specs.Step.{step}
 use Rattle.memory.specs.declared.refusals.PlanRefusal.TheVariants.{PortionHeld}
-use Rattle.memory.specs.Changes.{set_after, set_answer}
+use Rattle.memory.specs.Changes.{refusal_number, set_after, set_answer}
 
 -- registers of which P, X1 and A are given
 abbrev pub work : ℕ → ℕ → ℕ → Work
@@ -57,6 +61,11 @@ pub record Cases : Type 0 where
   pub not_branched : (after 0x6620 0xffff 0).p ≡ 0x0301
   -- a store whose address is in an unprotected page until X1 is added, in the background
   pub stored : (step (ready false true (work 0x0300 0x0110 0) 0xe2f0)).outcome ≡ Violated (record { kind = Store; place = 0x0300; aim = 0x0200 })
-  -- in a new plan block 3 takes portion 9, and then block 4 may not
+  -- in a new plan block 3 takes portion 9, and then block 4 may not: that is refusal 3
   pub taken : set_answer (range_with_len 0 8) 3 9 ≡ Ok tt
   pub held : set_answer (set_after (range_with_len 0 8) 3 9) 4 9 ≡ Err PortionHeld
+  pub held_number : refusal_number PortionHeld ≡ 3
+  -- a run of 1,000,000 steps is taken, and one of 1,000,001 is not: that is refusal 8
+  pub longest_run : (m : Machine) → (n : Counts) × (run_answer 1000000 m ≡ Ok n)
+  pub too_long : (m : Machine) → run_answer 1000001 m ≡ Err RunTooLong
+  pub too_long_number : number RunTooLong ≡ 8

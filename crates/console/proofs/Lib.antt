@@ -1,3 +1,4 @@
 pub mod Loads
 pub mod Counting
 pub mod Tracing
+pub mod Shown

@@ -1,5 +1,5 @@
 -- The text of a run of an image.
-use Rattle.std.specs.Prelude.{ℕ, true, List, take, Ok, Err, decimal, Result}
+use Rattle.std.specs.Prelude.{◌≡◌, ℕ, true, List, [], ◌∷◌, take, Ok, Err, codes, decimal, Result}
 use Rattle.image.specs.declared.Fault.{Fault}
 use Rattle.image.specs.declared.Record.{Record}
 use Rattle.image.specs.Format.{number}
@@ -32,3 +32,10 @@ run_report (Err x) = line (decimal (number x.cause))
 -- the text of a run of 100 steps of an image, of which the first 65536 bytes count
 abbrev pub run_line : List ℕ → List ℕ
 run_line bs = run_report (ran 100 (verdict 8192 (take 65536 bs)))
+
+-- the lines of two images, byte by byte
+pub record Shown : Type 0 where
+  -- a branch to itself at address 0: all steps are done
+  pub loop : run_line (0x01 ∷ 0x00 ∷ 0x00 ∷ 0x48 ∷ 0x00 ∷ 0xff ∷ []) ≡ codes "100 0 0 0 0 0\n"
+  -- a kind that there is not: refusal 9
+  pub no_kind : run_line (0x00 ∷ []) ≡ codes "9\n"

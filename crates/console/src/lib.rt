@@ -7,8 +7,8 @@ mod signals;
 mod start;
 mod traces;
 
-pub use lines::{counts_line, signal_line, step_line, violation_line};
+pub use lines::{SignalLine, StepLine, ViolationLine};
 pub use listing::LIMIT;
-pub use runs::run_line;
+pub use runs::{RunLine, run, run_line};
 pub use signals::{NoSignal, Signal};
 pub use traces::trace;

@@ -1,11 +1,9 @@
-//! The lines of a trace, each without its line feed.
-ghost use Rattle.std.specs.Prelude.{◌≡◌, ◌<◌, IfOk, Some, slice_index, string_bytes};
+//! The lines of a trace that are not of counts, each without its line feed.
+ghost use Rattle.std.specs.Prelude.{◌≡◌, ◌<◌, Some, slice_index};
 ghost use Rattle.console.specs.Lines.{change as changed, changes as all_changes, outcome_text, signal_line, step_line, violation_line, violation_text};
-ghost use Rattle.machine.specs.Text.{counts_line};
 
 use listing::Hex;
-use machine::{Counts, Outcome, Refusal, Signalled, Violation};
-use std::alloc::{AllocError, Global};
+use machine::{Outcome, Refusal, Signalled, Violation};
 use std::fmt;
 
 // A violation that is shown as its kind, its place and its aim.
@@ -99,51 +97,67 @@ impl fmt::Display for Changes<'_> {
     }
 }
 
-/// The line of a step, by its number, what it was, and the registers before and after it.
-pub fn step_line(
-    heap: Global,
-    number: u32,
-    outcome: Outcome,
-    before: &[u16; 8],
-    after: &[u16; 8],
-) -> Result<String, AllocError>
-    ensures { IfOk result (λ s. string_bytes s ≡ step_line number outcome before.now after.now) }
-{
-    let changes = Changes { before, after };
-    format!(in heap;
-        "{number} {} {}{changes}",
-        Hex(before[1]),
-        OutcomeText(outcome)
-    )
+/// A step: its number, P before it, what it was, and the registers that it changed.
+#[derive(Clone, Copy)]
+pub struct StepLine<'a> {
+    pub number: u32,
+    pub outcome: Outcome,
+    /// Registers 0 to 7 before the step.
+    pub before: &'a [u16; 8],
+    /// The same after it.
+    pub after: &'a [u16; 8],
 }
 
-/// The line of a signal to a level, by what it answered.
-pub fn signal_line(
-    heap: Global,
-    level: u8,
-    answer: Result<Signalled, Refusal>,
-) -> Result<String, AllocError>
-    ensures { IfOk result (λ s. string_bytes s ≡ signal_line level answer) }
-{
-    match answer {
-        Ok(signalled) => format!(in heap; "signal {level} {signalled}"),
-        Err(refusal) => format!(in heap; "signal {level} refused {}", refusal.number()),
+impl fmt::Display for StepLine<'_> {
+    ghost output = { λ x. Some (step_line x.number x.outcome x.before.now x.after.now) };
+
+    fn fmt<W: fmt::Write>(&self, f: &mut fmt::Formatter<W>) -> fmt::Result {
+        let StepLine {
+            number,
+            outcome,
+            before,
+            after,
+        } = *self;
+        write!(
+            f,
+            "{number} {} {}{}",
+            Hex(before[1]),
+            OutcomeText(outcome),
+            Changes { before, after }
+        )
     }
 }
 
-/// The line of how many steps were done, not carried, violations, stalls, entries and idle.
-pub fn counts_line(heap: Global, counts: Counts) -> Result<String, AllocError>
-    ensures { IfOk result (λ s. string_bytes s ≡ counts_line counts) }
-{
-    format!(in heap; "{counts}")
+/// A signal to a level, and what it answered.
+#[derive(Clone, Copy, PartialEq, Eq, Debug)]
+pub struct SignalLine {
+    pub level: u8,
+    pub answer: Result<Signalled, Refusal>,
 }
 
-/// The line of the latest violation.
-pub fn violation_line(heap: Global, latest: Option<Violation>) -> Result<String, AllocError>
-    ensures { IfOk result (λ s. string_bytes s ≡ violation_line latest) }
-{
-    match latest {
-        None => String::from_str(heap, "violation none"),
-        Some(violation) => format!(in heap; "violation {}", ViolationText(violation)),
+impl fmt::Display for SignalLine {
+    ghost output = { λ x. Some (signal_line x.level x.answer) };
+
+    fn fmt<W: fmt::Write>(&self, f: &mut fmt::Formatter<W>) -> fmt::Result {
+        let SignalLine { level, answer } = *self;
+        match answer {
+            Ok(signalled) => write!(f, "signal {level} {signalled}"),
+            Err(refusal) => write!(f, "signal {level} refused {}", refusal.number()),
+        }
+    }
+}
+
+/// The latest violation, or that there was none.
+#[derive(Clone, Copy, PartialEq, Eq, Debug)]
+pub struct ViolationLine(pub Option<Violation>);
+
+impl fmt::Display for ViolationLine {
+    ghost output = { λ x. Some (violation_line x.0) };
+
+    fn fmt<W: fmt::Write>(&self, f: &mut fmt::Formatter<W>) -> fmt::Result {
+        match self.0 {
+            None => write!(f, "violation none"),
+            Some(violation) => write!(f, "violation {}", ViolationText(violation)),
+        }
     }
 }

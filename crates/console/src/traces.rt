@@ -4,11 +4,11 @@ ghost use Rattle.machine.specs.Tallies.{Room};
 ghost use Rattle.engine.specs.View.{seen};
 ghost use Rattle.console.specs.Traces.{at, begun, ended, signal_at, signals_at, step_at, trace_of, trace_text};
 
-use crate::lines::{counts_line, signal_line, step_line, violation_line};
+use crate::lines::{SignalLine, StepLine, ViolationLine};
 use crate::signals::Signal;
 use crate::start::with_running;
 use engine::{Processor, Running};
-use listing::{fault_line, first};
+use listing::first;
 use machine::{Counts, LONGEST_RUN, Refusal};
 use memory::Memory;
 use std::alloc::{AllocError, Global};
@@ -40,8 +40,7 @@ impl<'a, M: Memory> Tracer<'a, M> {
         ensures { OnOk result (at M.words self.new ≡ signal_at level (at M.words self.old)) }
     {
         let answer = self.processor.signal(level);
-        let line = signal_line(self.heap, level, answer)?;
-        writeln!(self.text, "{line}")
+        writeln!(self.text, "{}", SignalLine { level, answer })
     }
 
     // Makes the signals that are given for a step.
@@ -65,17 +64,24 @@ impl<'a, M: Memory> Tracer<'a, M> {
         let outcome = self.processor.step();
         let after = self.processor.registers();
         self.counts.tally(outcome);
-        let line = step_line(self.heap, number, outcome, &before, &after)?;
+        let line = StepLine {
+            number,
+            outcome,
+            before: &before,
+            after: &after,
+        };
         writeln!(self.text, "{line}")
     }
 
     // The text of a trace at its end: with the counts and the latest violation.
-    fn end(&self) -> Result<String, AllocError>
-        ensures { IfOk result (λ s. string_bytes s ≡ ended (at M.words self.now)) }
+    fn end(mut self) -> Result<String, AllocError>
+        ensures { IfOk result (λ s. string_bytes s ≡ ended (at M.words self.entry)) }
     {
-        let counts = counts_line(self.heap, self.counts)?;
-        let violation = violation_line(self.heap, self.processor.violation())?;
-        format!(in self.heap; "{}{counts}\n{violation}\n", self.text)
+        let counts = self.counts;
+        let violation = ViolationLine(self.processor.violation());
+        writeln!(self.text, "{counts}")?;
+        writeln!(self.text, "{violation}")?;
+        Ok(self.text)
     }
 }
 
@@ -115,6 +121,6 @@ pub fn trace(
     });
     match traced {
         Ok(text) => text,
-        Err(fault) => format!(in heap; "{}\n", fault_line(heap, fault)?),
+        Err(fault) => format!(in heap; "{fault}\n"),
     }
 }

@@ -47,6 +47,7 @@ fn main(rt: HostRuntime) -> io::Result<()> {
 mod tests {
     use image::Record;
     use std::alloc::AllocError;
+    use std::io;
 
     #[test]
     fn a_record_has_its_line(rt: HostRuntime) -> Result<(), AllocError> {
@@ -54,8 +55,23 @@ mod tests {
             number: 15,
             state: 2,
         };
-        let line = listing::record_line(rt.alloc(), record)?;
+        let line = format!(in rt.alloc(); "{record}")?;
         assert_eq!(rt; line.as_str(), "level 15 enabled");
+        Ok(())
+    }
+
+    #[test]
+    fn a_listing_is_given(rt: HostRuntime) -> Result<(), AllocError> {
+        let text = listing::list(rt.alloc(), b"\x00")?;
+        assert_eq!(rt; text.as_str(), "refused 9 reading at 0\n");
+        Ok(())
+    }
+
+    #[test]
+    fn the_bytes_of_a_reader_are_given(rt: HostRuntime) -> io::Result<()> {
+        let image = [3, 7, 255];
+        let bytes = listing::read_image(rt.alloc(), image.as_slice())?;
+        assert_eq!(rt; bytes.as_slice(), [3, 7, 255]);
         Ok(())
     }
 }

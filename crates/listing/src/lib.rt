@@ -1,4 +1,4 @@
-//! The text of an image: a line for each record, for what was loaded, for the protection registers, or for a fault.
+//! The text of an image: a line for each record, for what was loaded and for the protection registers, or for a fault.
 #![tactic(auto)]
 
 mod input;
@@ -7,5 +7,5 @@ mod whole;
 
 pub use image::Hex;
 pub use input::read_image;
-pub use lines::{fault_line, loaded_line, map_line, record_line};
+pub use lines::{LoadedLine, MapLine};
 pub use whole::{LIMIT, first, list};

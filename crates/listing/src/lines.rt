@@ -1,38 +1,35 @@
-//! The lines of a listing, each without its line feed.
-ghost use Rattle.std.specs.Prelude.{◌≡◌, IfOk, string_bytes};
-ghost use Rattle.listing.specs.Text.{record_line, fault_line, loaded_line, map_line};
+//! The lines of a listing that are not a record's or a fault's, each without its line feed.
+ghost use Rattle.std.specs.Prelude.{Some};
+ghost use Rattle.listing.specs.Text.{loaded_line, map_line};
 
-use image::{Fault, Hex, Record};
-use std::alloc::{AllocError, Global};
+use image::Hex;
+use std::fmt;
 
-/// The line of a record; a level's number above 2, which no accepted image has, is shown as armed.
-pub fn record_line(heap: Global, item: Record) -> Result<String, AllocError>
-    ensures { IfOk result (λ s. string_bytes s ≡ record_line item) }
-{
-    format!(in heap; "{item}")
-}
+/// How many records were loaded.
+#[derive(Clone, Copy, PartialEq, Eq, Debug)]
+pub struct LoadedLine(pub usize);
 
-/// The line of a refused image.
-pub fn fault_line(heap: Global, fault: Fault) -> Result<String, AllocError>
-    ensures { IfOk result (λ s. string_bytes s ≡ fault_line fault) }
-{
-    format!(in heap; "{fault}")
-}
+impl fmt::Display for LoadedLine {
+    ghost output = { λ x. Some (loaded_line x.0) };
 
-/// The line of how many records were loaded.
-pub fn loaded_line(heap: Global, count: usize) -> Result<String, AllocError>
-    ensures { IfOk result (λ s. string_bytes s ≡ loaded_line count) }
-{
-    format!(in heap; "loaded {count} records")
-}
-
-/// The line of the protection registers.
-pub fn map_line(heap: Global, registers: &[u16; 16]) -> Result<String, AllocError>
-    ensures { IfOk result (λ s. string_bytes s ≡ map_line registers.now) }
-{
-    let mut text = String::from_str(heap, "map")?;
-    for word in registers {
-        write!(text, " {}", Hex(*word))?;
+    fn fmt<W: fmt::Write>(&self, f: &mut fmt::Formatter<W>) -> fmt::Result {
+        let count = self.0;
+        write!(f, "loaded {count} records")
     }
-    Ok(text)
+}
+
+/// The sixteen protection registers.
+#[derive(Clone, Copy, PartialEq, Eq, Debug)]
+pub struct MapLine(pub [u16; 16]);
+
+impl fmt::Display for MapLine {
+    ghost output = { λ x. Some (map_line x.0) };
+
+    fn fmt<W: fmt::Write>(&self, f: &mut fmt::Formatter<W>) -> fmt::Result {
+        write!(f, "map")?;
+        for word in &self.0 {
+            write!(f, " {}", Hex(*word))?;
+        }
+        Ok(())
+    }
 }

@@ -4,7 +4,7 @@ ghost use Rattle.image.specs.declared.Record.{Record as Item};
 ghost use Rattle.image.specs.Reading.{verdict};
 ghost use Rattle.listing.specs.Listing.{record_lines, listing};
 
-use crate::lines::{loaded_line, map_line};
+use crate::lines::{LoadedLine, MapLine};
 use engine::Processor;
 use image::Reader;
 use memory::Core;
@@ -46,9 +46,7 @@ pub fn list(heap: Global, bytes: &[u8]) -> Result<String, AllocError>
     match answer {
         Ok(count) => {
             let records = records(heap, bytes)?;
-            let loaded = loaded_line(heap, count)?;
-            let map = map_line(heap, &map)?;
-            format!(in heap; "{records}{loaded}\n{map}\n")
+            format!(in heap; "{records}{}\n{}\n", LoadedLine(count), MapLine(map))
         }
         Err(fault) => format!(in heap; "{fault}\n"),
     }

@@ -6,5 +6,5 @@ use std::io;
 fn main(rt: HostRuntime) -> io::Result<()> {
     let heap = rt.alloc();
     let bytes = listing::read_image(heap, rt.stdin())?;
-    rt.print(console::run_line(heap, bytes.as_slice())?)
+    rt.print(console::run_line(bytes.as_slice()))
 }

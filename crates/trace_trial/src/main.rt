@@ -15,9 +15,9 @@ const REGISTERS: &[u8] =
 fn main(rt: HostRuntime) -> io::Result<()> {
     let heap = rt.alloc();
     rt.println("a branch to itself, no kind, and no bytes")?;
-    rt.print(console::run_line(heap, b"\x01\x00\x00\x48\x00\xff")?)?;
-    rt.print(console::run_line(heap, b"\x00")?)?;
-    rt.print(console::run_line(heap, b"")?)?;
+    rt.print(console::run_line(b"\x01\x00\x00\x48\x00\xff"))?;
+    rt.print(console::run_line(b"\x00"))?;
+    rt.print(console::run_line(b""))?;
     rt.println("a refused image")?;
     rt.print(console::trace(heap, b"\x00", 5, true, &[])?)?;
     rt.println("a stall and an idle step")?;
@@ -30,4 +30,16 @@ fn main(rt: HostRuntime) -> io::Result<()> {
     rt.println("no steps, and too many")?;
     rt.print(console::trace(heap, STALLS, 0, true, &[])?)?;
     rt.print(console::trace(heap, STALLS, 1_000_001, true, &[])?)
+}
+
+#[cfg(test)]
+mod tests {
+    use std::alloc::AllocError;
+
+    #[test]
+    fn a_trace_is_given(rt: HostRuntime) -> Result<(), AllocError> {
+        let text = console::trace(rt.alloc(), b"\xff", 1, false, &[])?;
+        assert_eq!(rt; text.as_str(), "0 0000 done\n1 0 0 0 0 0\nviolation none\n");
+        Ok(())
+    }
 }

@@ -129,7 +129,7 @@ impl fmt::Display for StepLine<'_> {
 }
 
 /// A signal to a level, and what it answered.
-#[derive(Clone, Copy, PartialEq, Eq, Debug)]
+#[derive(Clone, Copy)]
 pub struct SignalLine {
     pub level: u8,
     pub answer: Result<Signalled, Refusal>,
@@ -148,7 +148,7 @@ impl fmt::Display for SignalLine {
 }
 
 /// The latest violation, or that there was none.
-#[derive(Clone, Copy, PartialEq, Eq, Debug)]
+#[derive(Clone, Copy)]
 pub struct ViolationLine(pub Option<Violation>);
 
 impl fmt::Display for ViolationLine {

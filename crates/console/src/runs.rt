@@ -31,7 +31,7 @@ pub fn run(bytes: &[u8]) -> Result<Counts, Fault>
 }
 
 /// The line of a run: its six counts, or for a refused image the number of the refusal; with a line feed.
-#[derive(Clone, Copy, PartialEq, Eq, Debug)]
+#[derive(Clone, Copy)]
 pub struct RunLine(pub Result<Counts, Fault>);
 
 impl fmt::Display for RunLine {

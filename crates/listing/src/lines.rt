@@ -6,7 +6,7 @@ use image::Hex;
 use std::fmt;
 
 /// How many records were loaded.
-#[derive(Clone, Copy, PartialEq, Eq, Debug)]
+#[derive(Clone, Copy)]
 pub struct LoadedLine(pub usize);
 
 impl fmt::Display for LoadedLine {
@@ -19,7 +19,7 @@ impl fmt::Display for LoadedLine {
 }
 
 /// The sixteen protection registers.
-#[derive(Clone, Copy, PartialEq, Eq, Debug)]
+#[derive(Clone, Copy)]
 pub struct MapLine(pub [u16; 16]);
 
 impl fmt::Display for MapLine {

@@ -16,7 +16,6 @@ use std::alloc::{AllocError, Global};
 // A trace so far: the processor that makes it, its text, and what its steps were.
 #[derive(Drop)]
 struct Tracer<'a, M> {
-    heap: Global,
     processor: &'a mut Processor<Running, M>,
     text: String,
     counts: Counts,
@@ -28,7 +27,6 @@ impl<'a, M: Memory> Tracer<'a, M> {
         ensures { at M.words result ≡ begun (seen M.words processor.old) }
     {
         Tracer {
-            heap,
             processor,
             text: String::new(heap),
             counts: Counts::default(),

@@ -1,40 +1,39 @@
 //! Sixteen records, of which one is lent at a time.
 #![tactic(auto, unfolding(crate::specs::Banks::records))]
 
-ghost use Rattle.std.specs.Prelude.{◌≡◌, ℕ, ◌<◌, ◌∷◌, replicate, slice_set};
-ghost use Rattle.std.specs.Borrow.{sem, follows_if};
-ghost use Rattle.std.specs.Option.{ghost_name_of as name_of, option_map};
+ghost use Rattle.std.specs.Prelude.{◌≡◌, ◌∷◌, replicate, slice_set};
+ghost use Rattle.std.specs.Borrow.{sem};
+ghost use Rattle.std.specs.Option.{option_map};
 ghost use Rattle.std.specs.List.{slice_get};
-ghost use Rattle.levels.specs.contracts.bank.Bank.{the_row};
-ghost use Rattle.levels.specs.Banks.{records, with_record};
+ghost use Rattle.levels.specs.Banks.{records, LendsRecord};
 ghost use Rattle.levels.specs.Levels.{controlled, level_at, told};
 
 use crate::level::{Event, Level, LevelControl};
 
-/// A record for each level: sixteen named fields, since an element of an array cannot be lent by contract.
+/// A record for each level, in a field of its own.
 #[derive(Drop)]
-pub(crate) struct Bank<T> {
-    l0: T,
-    l1: T,
-    l2: T,
-    l3: T,
-    l4: T,
-    l5: T,
-    l6: T,
-    l7: T,
-    l8: T,
-    l9: T,
-    l10: T,
-    l11: T,
-    l12: T,
-    l13: T,
-    l14: T,
-    l15: T,
+pub(crate) struct Bank {
+    l0: Level,
+    l1: Level,
+    l2: Level,
+    l3: Level,
+    l4: Level,
+    l5: Level,
+    l6: Level,
+    l7: Level,
+    l8: Level,
+    l9: Level,
+    l10: Level,
+    l11: Level,
+    l12: Level,
+    l13: Level,
+    l14: Level,
+    l15: Level,
 }
 
-impl<T: Copy> Bank<T> {
+impl Bank {
     /// One record for level 0, another for each of the others.
-    pub(crate) fn new(first: T, other: T) -> Bank<T>
+    pub(crate) fn new(first: Level, other: Level) -> Bank
         ensures { records result ≡ first ∷ replicate 15 other }
     {
         Bank {
@@ -56,12 +55,10 @@ impl<T: Copy> Bank<T> {
             l15: other,
         }
     }
-}
 
-impl<T> Bank<T> {
     /// The record of a level, lent, or `None` above level 15.
-    pub(crate) fn get(&mut self, number: u8) -> Option<&mut T>
-        ensures* follows { sem 𝓛 (follows_if (the_row T.row) T.row self.entry.ghost_name (name_of result) (λ w. with_record self.old number w) self.old) }
+    pub(crate) fn get(&mut self, number: u8) -> Option<&mut Level>
+        ensures* follows { sem 𝓛 (LendsRecord self.entry number result) }
         ensures value { option_map (λ x. x.now) result ≡ slice_get (records self.old) number }
     {
         match number {
@@ -84,9 +81,7 @@ impl<T> Bank<T> {
             _ => None,
         }
     }
-}
 
-impl Bank<Level> {
     /// The sixteen records in the order of their levels.
     pub(crate) fn all(&self) -> [Level; 16]
         ensures { result ≡ records self.now }

@@ -11,16 +11,15 @@ use std::marker::Model;
 /// The level records, and whether it is known that none of them waits, so that most steps need not look at them.
 #[derive(Drop)]
 pub struct Levels {
-    bank: Bank<Level>,
+    bank: Bank,
     calm: bool,
 }
 
 impl Model for Levels {
     ghost use Rattle.std.specs.Prelude.{◌≡◌, true};
-    ghost use Rattle.levels.specs.declared.level.Level.{Level};
     ghost use Rattle.levels.specs.declared.bank.Bank.{Bank};
 
-    ghost Value = { Bank Level };
+    ghost Value = { Bank };
 
     ghost use Rattle.levels.specs.Banks.{records};
     ghost use Rattle.levels.specs.Levels.{Quiet};

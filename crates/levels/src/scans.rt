@@ -10,7 +10,7 @@ use crate::inhibits::Inhibits;
 use crate::level::{Event, Level, LevelControl, Property, Sight};
 use crate::words::bit_of;
 
-impl Bank<Level> {
+impl Bank {
     /// The lowest level that may enter.
     #[tactic(auto, using(crate::proofs::Turns::searching))]
     pub(crate) fn lowest(&self, inhibits: Inhibits) -> Option<u8>

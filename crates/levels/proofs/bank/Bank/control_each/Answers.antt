@@ -1,8 +1,8 @@
 use Rattle.std.proofs.Common.{true, false, sym, ap, ◌∙◌}
 use Rattle.levels.specs.Banks.{records}
 use Rattle.levels.proofs.Turns.{controls}
-use Rattle.levels.proofs.scans.Bank+Level.control_each.Goals as goal
-use Rattle.levels.proofs.scans.Bank+Level.control_each.Goals.{then-bit_of, else-bit_of}
+use Rattle.levels.proofs.bank.Bank.control_each.Goals as goal
+use Rattle.levels.proofs.bank.Bank.control_each.Goals.{then-bit_of, else-bit_of}
 
 pub loop-number-preserved : goal.loop-number-preserved
 loop-number-preserved c =

@@ -4,7 +4,7 @@ use Rattle.std.proofs.lemmas.Iterator.Consumers.{fold_from_yields_List}
 use Rattle.levels.specs.Banks.{records}
 use Rattle.levels.proofs.Banks.{length_records}
 use Rattle.levels.proofs.Bits.{bits_all, pushed}
-use Rattle.levels.proofs.scans.Bank+Level.bits.Goals as goal
+use Rattle.levels.proofs.bank.Bank.bits.Goals as goal
 
 pub returns : goal.returns
 returns c =

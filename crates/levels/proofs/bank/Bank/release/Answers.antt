@@ -6,7 +6,7 @@ use Rattle.levels.specs.declared.level.Property.TheVariants.{Active}
 use Rattle.levels.specs.Levels.{has}
 use Rattle.levels.proofs.Banks.{length_records}
 use Rattle.levels.proofs.Turns.{released_found}
-use Rattle.levels.proofs.scans.Bank+Level.release.Goals as goal
+use Rattle.levels.proofs.bank.Bank.release.Goals as goal
 
 pub returns-in-Some : goal.returns-in-Some
 returns-in-Some c =

@@ -46,5 +46,6 @@ images = record {
   counted_records = refl;
   numbers = refl;
   layers = refl;
+  found_by = λ c place. refl;
   calls = refl;
 }

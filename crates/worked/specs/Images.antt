@@ -7,7 +7,7 @@ use Rattle.image.specs.declared.Layer.TheVariants.{Reading, Storing}
 use Rattle.image.specs.declared.Record.{Record}
 use Rattle.image.specs.declared.Record.TheVariants.{Word, Protection, Register, Level}
 use Rattle.machine.specs.declared.refusal.Refusal.TheVariants.{NoRegister as CallNoRegister, NoAddress as CallNoAddress, NoLevel as CallNoLevel, LevelZero as CallLevelZero}
-use Rattle.image.specs.Format.{encode, layer, number}
+use Rattle.image.specs.Format.{encode, fault, fault_layer, layer, number}
 use Rattle.image.specs.Reading.{counted, item_at, place_after, verdict, word_at}
 use Rattle.machine.specs.Refusals.{number as call_number}
 
@@ -78,7 +78,8 @@ pub record Images : Type 0 where
   pub missing : word_at (2 ∷ 3 ∷ 0x80 ∷ []) 0 2 ≡ Err (record { cause = CutShort; place = 0 })
   -- a load answers how many records there are
   pub counted_records : counted 0 (held (3 ∷ 1 ∷ 2 ∷ 0 ∷ 4 ∷ 3 ∷ 1 ∷ 255 ∷ [])) ≡ Ok 2
-  -- the numbers and the layers; where a call refuses the same, it has the same number
+  -- the numbers and the layers, which are those of a fault wherever it is; where a call refuses the same, it has the same number
   pub numbers : map number causes ≡ 4 ∷ 5 ∷ 6 ∷ 7 ∷ 9 ∷ 10 ∷ 11 ∷ 12 ∷ []
   pub layers : map layer causes ≡ Storing ∷ Storing ∷ Storing ∷ Storing ∷ Reading ∷ Reading ∷ Reading ∷ Storing ∷ []
+  pub found_by : (c : Cause) (place : ℕ) → fault_layer (fault c place) ≡ layer c
   pub calls : map call_number (CallNoRegister ∷ CallNoAddress ∷ CallNoLevel ∷ CallLevelZero ∷ []) ≡ map number (NoRegister ∷ NoAddress ∷ NoLevel ∷ LevelZero ∷ [])

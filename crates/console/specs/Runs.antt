@@ -24,14 +24,18 @@ abbrev pub ran : ℕ → Result (List Record) Fault → Result Counts Fault
 ran n (Ok rs) = Ok (run_counts n rs)
 ran n (Err x) = Err x
 
+-- the counts of 100 steps of an image, of which the first 65536 bytes count, or its fault
+abbrev pub run_of : List ℕ → Result Counts Fault
+run_of bs = ran 100 (verdict 8192 (take 65536 bs))
+
 -- a line of the counts, or of the number of the fault's cause
 abbrev pub run_report : Result Counts Fault → List ℕ
 run_report (Ok n) = line (counts_line n)
 run_report (Err x) = line (decimal (number x.cause))
 
--- the text of a run of 100 steps of an image, of which the first 65536 bytes count
+-- the text of a run of an image
 abbrev pub run_line : List ℕ → List ℕ
-run_line bs = run_report (ran 100 (verdict 8192 (take 65536 bs)))
+run_line bs = run_report (run_of bs)
 
 -- the lines of two images, byte by byte
 pub record Shown : Type 0 where

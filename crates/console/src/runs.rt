@@ -1,8 +1,7 @@
 //! A run of an image.
-ghost use Rattle.std.specs.Prelude.{◌≡◌, Some, take};
+ghost use Rattle.std.specs.Prelude.{◌≡◌, Some};
 ghost use Rattle.engine.specs.View.{seen};
-ghost use Rattle.image.specs.Reading.{verdict};
-ghost use Rattle.console.specs.Runs.{Shown, counts_after, ran, run_line, run_report};
+ghost use Rattle.console.specs.Runs.{Shown, counts_after, run_line, run_of, run_report};
 
 use crate::start::with_running;
 use engine::{Processor, Running};
@@ -25,7 +24,7 @@ fn counts_of<M: Memory>(processor: &mut Processor<Running, M>) -> Counts
 /// The six counts of a run of 100 steps of an image, loaded into a new processor over 8192 zero words, with the protect
 /// switch on; or why the image is refused. Of the bytes the first 65536 count.
 pub fn run(bytes: &[u8]) -> Result<Counts, Fault>
-    ensures { result ≡ ran 100 (verdict 8192 (take 65536 bytes.now)) }
+    ensures { result ≡ run_of bytes.now }
 {
     with_running(first(bytes), true, |processor| counts_of(processor))
 }
@@ -47,6 +46,7 @@ impl fmt::Display for RunLine {
 
 /// The line of a run of an image.
 pub fn run_line(bytes: &[u8]) -> RunLine
+    ensures run { result.0 ≡ run_of bytes.now }
     ensures text { ⟦<RunLine as fmt::Display>⟧.output result ≡ Some (run_line bytes.now) }
     ensures shown { Shown }
 {

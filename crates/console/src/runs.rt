@@ -15,7 +15,7 @@ use std::fmt;
 const STEPS: u32 = 100;
 
 // The counts of a run of a processor.
-fn counts_of<M: Memory>(processor: &mut Processor<Running, M>) -> Counts
+fn counts_after<M: Memory>(processor: &mut Processor<Running, M>) -> Counts
     ensures { result ≡ counts_after STEPS (seen M.words processor.old) }
 {
     processor.run(STEPS).unwrap()
@@ -26,7 +26,7 @@ fn counts_of<M: Memory>(processor: &mut Processor<Running, M>) -> Counts
 pub fn run(bytes: &[u8]) -> Result<Counts, Fault>
     ensures { result ≡ run_of bytes.now }
 {
-    with_running(first(bytes), true, |processor| counts_of(processor))
+    with_running(first(bytes), true, |processor| counts_after(processor))
 }
 
 /// The line of a run: its six counts, or for a refused image the number of the refusal; with a line feed.

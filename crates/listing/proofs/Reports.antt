@@ -1,5 +1,5 @@
 -- The text of an image, from what loading it answers.
-use Rattle.std.proofs.Common.{◌≡◌, ℕ, ◌+◌, List, [], ◌∷◌, ◌++◌, length, take, replicate, Ok, Err, Result, sym, refl, ap, ◌∙◌, append_assoc, arith}
+use Rattle.std.proofs.Common.{◌≡◌, ℕ, ◌+◌, List, ◌++◌, length, take, replicate, Ok, Err, Result, sym, refl, ap, ◌∙◌, append_assoc, arith}
 use Rattle.std.proofs.lemmas.List.{length-replicate, take_all}
 use Rattle.image.specs.declared.Fault.{Fault}
 use Rattle.image.specs.declared.Record.{Record}
@@ -31,15 +31,15 @@ module _ (raw bs ws : List ℕ) (s : Cpu) (cut : bs ≡ take 65536 raw) (zero : 
   pub accepted : (n : ℕ) (m : Machine) (t : List ℕ) (ps : List ℕ)
       → Ok n ≡ counted 0 (verdict (length (front ws)) bs) → m ≡ load_after (verdict (length (front ws)) bs) (record { cpu = s; words = front ws })
       → ((rs : List Record) → verdict 8192 bs ≡ Ok rs → t ≡ record_lines rs) → ps ≡ m.cpu.guard.protection
-      → t ++ (loaded_line n ++ (10 ∷ (map_line ps ++ (10 ∷ [])))) ≡ listing raw
+      → (t ++ line (loaded_line n)) ++ line (map_line ps) ≡ listing raw
   accepted n m t ps answer after lines shows = by (verdict 8192 bs) refl
     where
-      by : (v : Result (List Record) Fault) → verdict 8192 bs ≡ v → t ++ (loaded_line n ++ (10 ∷ (map_line ps ++ (10 ∷ [])))) ≡ listing raw
+      by : (v : Result (List Record) Fault) → verdict 8192 bs ≡ v → (t ++ line (loaded_line n)) ++ line (map_line ps) ≡ listing raw
       by (Ok rs) e =
           let v : verdict (length (front ws)) bs ≡ Ok rs = ap (λ k. verdict k bs) limited ∙ e in
           let count : n ≡ length rs = (let f = answer ∙ ap (counted 0) v in let g : n ≡ 0 + length rs = cc in omega arith) in
           let map : ps ≡ map_after rs = shows ∙ ap (λ k. k.cpu.guard.protection) (after ∙ ap (λ x. load_after x (record { cpu = s; words = front ws })) v ∙ ap (loaded rs) starts) in
-          (λ i. lines rs e i ++ (loaded_line (count i) ++ (10 ∷ (map_line (map i) ++ (10 ∷ [])))))
-          ∙ ap (λ l. record_lines rs ++ l) (sym (append_assoc (loaded_line (length rs)) (10 ∷ []) (line (map_line (map_after rs)))))
+          (λ i. (lines rs e i ++ line (loaded_line (count i))) ++ line (map_line (map i)))
+          ∙ append_assoc (record_lines rs) (line (loaded_line (length rs))) (line (map_line (map_after rs)))
           ∙ sym (found (Ok rs) e)
       by (Err x) e = absurd (let f = answer ∙ ap (λ k. counted 0 (verdict k bs)) limited ∙ ap (counted 0) e in let z : ◌≡◌ {A = ℕ} 0 1 = cc in omega arith)

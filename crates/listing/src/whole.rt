@@ -45,8 +45,10 @@ pub fn list(heap: Global, bytes: &[u8]) -> Result<String, AllocError>
     drop(processor.into_memory());
     match answer {
         Ok(count) => {
-            let records = records(heap, bytes)?;
-            format!(in heap; "{records}{}\n{}\n", LoadedLine(count), MapLine(map))
+            let mut text = records(heap, bytes)?;
+            writeln!(text, "{}", LoadedLine(count))?;
+            writeln!(text, "{}", MapLine(map))?;
+            Ok(text)
         }
         Err(fault) => format!(in heap; "{fault}\n"),
     }

@@ -773,9 +773,12 @@ impl fmt::Display for Fault {
     }
 }
 
-/// The records of an image for a memory of some size, or its first fault.
+/// The records of an image for a memory of some size, which are none where it has no bytes, or its first fault.
 fn read_image(image: &[u8], size: usize) -> Result<Vec<Record>, Fault> {
     let mut records = Vec::new();
+    if image.is_empty() {
+        return Ok(records);
+    }
     let mut place = 0;
     loop {
         let fault = |cause| Fault { cause, place };
@@ -987,6 +990,9 @@ fn trace_text(image: &[u8], arguments: &[String], coverage: &mut Coverage) -> St
         return "refused 8\n".to_string();
     }
     coverage.meet("images: accepted".to_string());
+    if image.is_empty() {
+        coverage.meet("images: accepted with no bytes".to_string());
+    }
     machine.go(arguments.protect_switch);
     trace_steps(&mut machine, &arguments, coverage)
 }
@@ -1065,7 +1071,7 @@ impl Coverage {
         };
         let own = |names: &[&str]| names.iter().map(|name| name.to_string()).collect::<Vec<String>>();
         expect("arguments", &own(&["usage", "refused 8"]));
-        expect("images", &own(&["accepted"]));
+        expect("images", &own(&["accepted", "accepted with no bytes"]));
         expect("images", &[4, 5, 6, 7, 9, 10, 11, 12].map(|number| format!("refused {number}")));
         expect("signals", &own(&["waiting", "dropped", "refused 6", "refused 7"]));
         expect("steps", &own(&["done", "not carried", "idle"]));

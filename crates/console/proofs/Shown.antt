@@ -1,4 +1,4 @@
--- The lines of three images, by computation, and which bytes count.
+-- The lines of four images, by computation, and which bytes count.
 use Rattle.std.proofs.Common.{refl, ap, arith}
 use Rattle.std.proofs.lemmas.List.{take-append-le, take_all}
 use Rattle.std.specs.Fmt.{digits}
@@ -13,6 +13,7 @@ unfolding blank counts_after digits instruction_at lowest records_from step verd
 shown = record {
   loop = refl;
   barred = refl;
+  nothing = refl;
   no_kind = refl;
   whole = λ bs h. ap (λ l. ran 100 (verdict 8192 l)) (take_all 65536 bs h);
   cut = λ bs more h. ap (λ l. ran 100 (verdict 8192 l)) (take-append-le 65536 bs more (omega arith));

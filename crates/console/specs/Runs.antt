@@ -37,12 +37,14 @@ run_report (Err x) = line (decimal (number x.cause))
 abbrev pub run_line : List ℕ → List ℕ
 run_line bs = run_report (run_of bs)
 
--- the lines of three images, byte by byte, and which bytes of an image count
+-- the lines of four images, byte by byte, and which bytes of an image count
 pub record Shown : Type 0 where
   -- a branch to itself at address 0: all steps are done
   pub loop : run_line (0x01 ∷ 0x00 ∷ 0x00 ∷ 0x48 ∷ 0x00 ∷ 0xff ∷ []) ≡ codes "100 0 0 0 0 0\n"
   -- a privileged function there: the protect switch is on, so that it is a violation, and level 0 is entered
   pub barred : run_line (0x01 ∷ 0x00 ∷ 0x00 ∷ 0x00 ∷ 0x20 ∷ 0xff ∷ []) ≡ codes "98 0 1 0 1 0\n"
+  -- no bytes: all steps are done in zero memory
+  pub nothing : run_line [] ≡ codes "100 0 0 0 0 0\n"
   -- a kind that there is not: refusal 9
   pub no_kind : run_line (0x00 ∷ []) ≡ codes "9\n"
   -- at most 65,536 bytes all count, and of more only the first 65,536

@@ -23,11 +23,11 @@ begin limit bs n m e = by (verdict limit bs) refl
 
 -- the same in the terms of the code: ms are the reader's bytes
 module _ (limit : ℕ) (ms bs : List ℕ) (p : ℕ) (before m : Machine) (same : ms ≡ bs) (now_at : Loading limit bs p before m) where
-  pub goes_on : (i : Option Record) (r : Record) (after : ℕ) (n : Machine) → Ok i ≡ item_at ms p → i ≡ Some r → after ≡ place_after p (Ok i) → n ≡ stored r m → Loading limit bs after before n
+  pub goes_on : (i : Option Record) (r : Record) (after : ℕ) (n : Machine) → Ok i ≡ item_at ms p → i ≡ Some r → after ≡ place_after ms p (Ok i) → n ≡ stored r m → Loading limit bs after before n
   goes_on i r after n a e f s =
       let here : item_at bs p ≡ Ok (Some r) = ap (λ l. item_at l p) (sym same) ∙ sym a ∙ ap Ok e in
       let o = onward limit bs p now_at.rest r now_at.left here in
-      let k : after ≡ p + size r = f ∙ ap (λ j. place_after p (Ok j)) e in
+      let k : after ≡ p + size r = f ∙ ap (λ j. place_after ms p (Ok j)) e in
       rw (k, s) (record { rest = o.0; left = o.2; whole = now_at.whole ∙ ap (λ rs. loaded rs m) o.1 })
 
   pub ends : (i : Option Record) → Ok i ≡ item_at ms p → i ≡ None → m ≡ load_after (verdict limit bs) before

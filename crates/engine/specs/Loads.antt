@@ -3,8 +3,7 @@ use Rattle.std.specs.Prelude.{◌≡◌, ℕ, List, [], ◌∷◌, length, Ok, E
 use Rattle.image.specs.declared.Fault.{Fault}
 use Rattle.image.specs.declared.Record.{Record}
 use Rattle.image.specs.declared.Record.TheVariants.{Word, Protection, Register, Level}
-use Rattle.image.specs.Format.{encode}
-use Rattle.image.specs.Law.{AllStorable, Told}
+use Rattle.image.specs.Law.{AllStorable, ImageOf, Told}
 use Rattle.levels.specs.Levels.{preset}
 use Rattle.machine.specs.State.{Machine, with_level}
 use Rattle.engine.specs.Calls.{deposited, protected, put, set_cpu}
@@ -28,9 +27,9 @@ load_after (Err x) m = m
 
 -- the law of an answer r to the bytes of an image, for the machine before and after
 pub record Law (bytes : List ℕ) (r : Result ℕ Fault) (before after : Machine) : Type 0 where
-  -- what is accepted is the encoding of as many storable records and the end; what is refused has the flaw that the answer names
+  -- what is accepted is an image of as many storable records; what is refused has the flaw that the answer names
   pub told : Told (length before.words) bytes r
-  -- every such encoding is accepted, and loads what its records say in their order
-  pub loads : (rs : List Record) → bytes ≡ encode rs → AllStorable (length before.words) rs → (r ≡ Ok (length rs)) × (after ≡ loaded rs before)
+  -- every image of storable records is accepted, and loads what they say in their order
+  pub loads : (rs : List Record) → ImageOf bytes rs → AllStorable (length before.words) rs → (r ≡ Ok (length rs)) × (after ≡ loaded rs before)
   -- a refusal leaves everything as it was
   pub leaves : (x : Fault) → r ≡ Err x → after ≡ before

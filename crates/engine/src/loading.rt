@@ -27,7 +27,8 @@ impl<M: Memory> Processor<Idle, M> {
         }
     }
 
-    /// Loads an image, and answers how many records it has; a refused one is not loaded at all.
+    /// Loads an image, and answers how many records it has; a refused one is not loaded at all, and one of no bytes has
+    /// none.
     pub fn load(&mut self, bytes: &[u8]) -> Result<usize, Fault>
         ensures answer { result ≡ counted 0 (verdict (length (M.words self.old.memory)) bytes.now) }
         ensures after { seen M.words self.new ≡ load_after (verdict (length (M.words self.old.memory)) bytes.now) (seen M.words self.old) }

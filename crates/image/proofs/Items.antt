@@ -30,8 +30,8 @@ module _ (bs : List ℕ) (p : ℕ) where
   pub read : Octets bs → (r : Record) → item_at bs p ≡ Ok (Some r) → drop p bs ≡ encode_record r ++ drop (p + size r) bs
   read o r e = grind (arith, nat_tests, drop_more)
 
-  pub ended : item_at bs p ≡ Ok None → drop p bs ≡ 255 ∷ []
-  ended e = grind (arith, nat_tests, drop_more, drop_all)
+  pub ended : 0 < length bs → item_at bs p ≡ Ok None → drop p bs ≡ 255 ∷ []
+  ended some e = grind (arith, nat_tests, drop_more, drop_all)
 
   module _ (l : List ℕ) (here : drop p bs ≡ l) where
     reach : (i : ℕ) → get_or bs (p + i) 0 ≡ get_or l i 0
@@ -51,7 +51,7 @@ module _ (bs : List ℕ) (p : ℕ) where
 
   -- a fault in reading is a flaw of the bytes from there on
   pub faulty : (limit : ℕ) (x : Fault) → item_at bs p ≡ Err x → (l : List ℕ) → drop p bs ≡ l → Flaw limit p (fault_layer x) l x
-  faulty limit x e [] f = let q : x ≡ fault CutShort p = grind (arith, left _ f) in rw q no_end
+  faulty limit x e [] f = let q : (x ≡ fault CutShort p) × (0 < p) = grind (arith, nat_tests, left _ f) in rw q.0 (no_end q.1)
   faulty limit x e (k ∷ rest) f =
       by rest (grind (arith, nat_tests, left _ f, reach _ f 0))
     where

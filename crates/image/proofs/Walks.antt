@@ -1,5 +1,6 @@
 -- How the check of an image goes on from record to record.
 use Rattle.std.proofs.Common.{◌≡◌, ℕ, zero, suc, ◌+◌, ◌-◌, ◌<◌, ◌≤◌, List, [], ◌∷◌, ◌++◌, length, drop, Some, None, Ok, Err, Option, Result, sym, refl, ap, ◌∙◌, append_assoc, arith}
+use Rattle.std.proofs.lemmas.Bool.Decides.{nat_tests}
 use Rattle.std.proofs.lemmas.List.{drop-drop, length-append}
 use Rattle.std.proofs.lemmas.List.Prefix.{front_rest}
 use Rattle.std.proofs.Math.Nat.{add-zero, add_assoc, zero-add}
@@ -7,18 +8,18 @@ use Rattle.image.specs.declared.Cause.TheVariants.{CutShort}
 use Rattle.image.specs.declared.Fault.{Fault}
 use Rattle.image.specs.declared.Record.{Record}
 use Rattle.image.specs.Format.{encode, encode_record, encode_records, fault, fault_layer, storing}
-use Rattle.image.specs.Law.{AllStorable, Complete, Flaw, Storable, Told, not_storable}
+use Rattle.image.specs.Law.{AllStorable, Complete, Flaw, ImageOf, Storable, Told, encoded, no_bytes, not_storable}
 use Rattle.image.specs.Reading.{and_then, counted, item_at, place_after, records_from, size, verdict}
 use Rattle.image.proofs.Items.{Octets, end_back, ended, faulty, found_in_storing, read, read_back, size_pos, storable_anywhere}
 
--- any bound that is large enough serves
-enough : (f g limit : ℕ) (bs : List ℕ) (p : ℕ) → length bs < f + p → length bs < g + p → records_from f limit bs p ≡ records_from g limit bs p
+-- where there are bytes, any bound that is large enough serves
+enough : (f g limit : ℕ) (bs : List ℕ) (p : ℕ) → 0 < length bs → length bs < f + p → length bs < g + p → records_from f limit bs p ≡ records_from g limit bs p
 unfolding records_from
-enough zero zero limit bs p h k = refl
-enough zero (suc g) limit bs p h k = grind arith
-enough (suc f) zero limit bs p h k = grind arith
-enough (suc f) (suc g) limit bs p h k =
-    simp (λ (r : Record). enough f g limit bs (p + size r) (omega (arith, size_pos r)) (omega (arith, size_pos r)))
+enough zero zero limit bs p some h k = refl
+enough zero (suc g) limit bs p some h k = grind arith
+enough (suc f) zero limit bs p some h k = grind arith
+enough (suc f) (suc g) limit bs p some h k =
+    simp (λ (r : Record). enough f g limit bs (p + size r) some (omega (arith, size_pos r)) (omega (arith, size_pos r)))
 
 -- a record before those that follow it
 abbrev first : Record → Result (List Record) Fault → Result (List Record) Fault
@@ -32,7 +33,8 @@ module _ (limit : ℕ) (bs : List ℕ) (p : ℕ) where
   at_record : (r : Record) → item_at bs p ≡ Ok (Some r) → storing limit p r ≡ Ok tt → from limit bs p ≡ first r (from limit bs (p + size r))
   unfolding records_from
   at_record r e s =
-      rw (e, s, enough (length bs - p) (suc (length bs - (p + size r))) limit bs (p + size r) (omega (arith, size_pos r)) (omega (arith, size_pos r)))
+      let some : 0 < length bs = grind (arith, nat_tests) in
+      rw (e, s, enough (length bs - p) (suc (length bs - (p + size r))) limit bs (p + size r) some (omega (arith, size_pos r)) (omega (arith, size_pos r)))
 
   at_refusal : (r : Record) (x : Fault) → item_at bs p ≡ Ok (Some r) → storing limit p r ≡ Err x → from limit bs p ≡ Err x
   unfolding records_from
@@ -57,10 +59,13 @@ whole_back limit bs p (r ∷ rs) e s =
 -- the whole image is read from its first byte on
 pub from_start : (limit : ℕ) (bs : List ℕ) → verdict limit bs ≡ from limit bs 0
 unfolding verdict
-from_start limit bs = enough (suc (length bs)) (suc (length bs - 0)) limit bs 0 (omega arith) (omega arith)
+from_start limit [] = refl
+from_start limit (b ∷ bs) = enough (suc (length (b ∷ bs))) (suc (length (b ∷ bs) - 0)) limit (b ∷ bs) 0 (omega arith) (omega arith) (omega arith)
 
-pub complete : (limit : ℕ) (bs : List ℕ) (rs : List Record) → bs ≡ encode rs → AllStorable limit rs → verdict limit bs ≡ Ok rs
-complete limit bs rs e s = from_start limit bs ∙ whole_back limit bs 0 rs e s
+pub complete : (limit : ℕ) (bs : List ℕ) (rs : List Record) → ImageOf bs rs → AllStorable limit rs → verdict limit bs ≡ Ok rs
+unfolding verdict records_from
+complete limit _ _ no_bytes s = refl
+complete limit _ _ (encoded rs) s = from_start limit (encode rs) ∙ whole_back limit (encode rs) 0 rs refl s
 
 -- what the contract of the check asks of an answer
 abbrev Answered : ℕ → List ℕ → Result ℕ Fault → Type 0
@@ -72,7 +77,7 @@ Tells limit bs p (Ok rs) = (drop p bs ≡ encode rs) × AllStorable limit rs
 Tells limit bs p (Err x) =
     (before : List Record) × (rest : List ℕ) × (drop p bs ≡ encode_records before ++ rest) × AllStorable limit before × Flaw limit (p + length (encode_records before)) (fault_layer x) rest x
 
-module _ (limit : ℕ) (bs : List ℕ) (o : Octets bs) where
+module _ (limit : ℕ) (bs : List ℕ) (o : Octets bs) (some : 0 < length bs) where
   module _ (p : ℕ) where
     -- a fault at p
     flawed : (x : Fault) → from limit bs p ≡ Err x → Flaw limit p (fault_layer x) (drop p bs) x → Tells limit bs p (from limit bs p)
@@ -92,7 +97,7 @@ module _ (limit : ℕ) (bs : List ℕ) (o : Octets bs) where
 
       item : (i : Result (Option Record) Fault) → item_at bs p ≡ i → Tells limit bs p (from limit bs p)
       item (Err x) e = flawed x (at_fault limit bs p x e) (faulty bs p limit x e _ refl)
-      item (Ok None) e = rw (at_end limit bs p e) (ended bs p e, tt)
+      item (Ok None) e = rw (at_end limit bs p e) (ended bs p some e, tt)
       item (Ok (Some r)) e = stored r e (storing limit p r) refl
 
   -- at each place; f only bounds the recursion
@@ -101,16 +106,24 @@ module _ (limit : ℕ) (bs : List ℕ) (o : Octets bs) where
   tells (suc f) p h = item p (λ q m. tells f q (omega arith)) (item_at bs p) refl
 
   told : (v : Result (List Record) Fault) → Tells limit bs 0 v → Told limit bs (counted 0 v)
-  told (Ok rs) t = record { records = rs; encoded = t.0; storable = t.1; count = omega arith }
+  told (Ok rs) t = record { records = rs; image = rw t.0 (encoded rs); storable = t.1; count = omega arith }
   told (Err x) t = record { before = t.0; rest = t.1; split = t.2; storable = t.3; flaw = simp zero-add at t.4 }
 
-  -- an answer that is the verdict's is lawful
-  lawful : (r : Result ℕ Fault) → r ≡ counted 0 (verdict limit bs) → Answered limit bs r
-  lawful r a = record {
-    answer = a;
-    told = rw (a, from_start limit bs) (told _ (tells (suc (length bs)) 0 (omega arith)));
-    complete = λ rs e s. a ∙ ap (counted 0) (complete limit bs rs e s) ∙ ap Ok (omega arith);
-  }
+-- what the verdict says of the whole image
+verdict_told : (limit : ℕ) (bs : List ℕ) → Octets bs → Told limit bs (counted 0 (verdict limit bs))
+unfolding verdict records_from
+verdict_told limit [] o = record { records = []; image = no_bytes; storable = tt; count = refl }
+verdict_told limit (b ∷ bs) o =
+    let some : 0 < length (b ∷ bs) = omega arith in
+    rw (from_start limit (b ∷ bs)) (told limit (b ∷ bs) o some _ (tells limit (b ∷ bs) o some (suc (length (b ∷ bs))) 0 (omega arith)))
+
+-- an answer that is the verdict's is lawful
+lawful : (limit : ℕ) (bs : List ℕ) → Octets bs → (r : Result ℕ Fault) → r ≡ counted 0 (verdict limit bs) → Answered limit bs r
+lawful limit bs o r a = record {
+  answer = a;
+  told = rw a (verdict_told limit bs o);
+  complete = λ rs e s. a ∙ ap (counted 0) (complete limit bs rs e s) ∙ ap Ok (omega arith);
+}
 
 counted_first : (n : ℕ) (r : Record) (x : Result (List Record) Fault) → counted n (first r x) ≡ counted (n + 1) x
 counted_first n r x = grind arith
@@ -143,7 +156,7 @@ module _ {limit : ℕ} {ms bs : List ℕ} {p n : ℕ} (now_at : Progress limit m
     pub refuses : (x : Fault) → Err x ≡ storing limit p r → Answered limit bs (Err x)
     refuses x s = exits (Err x) (rw (at_refusal limit bs p r x here (sym s)))
 
-    pub goes_on : (ns : List ℕ) (after : ℕ) → ns ≡ ms → after ≡ place_after p (Ok i) → Ok tt ≡ storing limit p r → Progress limit ns bs after (n + 1)
+    pub goes_on : (ns : List ℕ) (after : ℕ) → ns ≡ ms → after ≡ place_after ms p (Ok i) → Ok tt ≡ storing limit p r → Progress limit ns bs after (n + 1)
     goes_on ns after b f s =
         let k : after ≡ p + size r = grind arith in
         record {

@@ -18,8 +18,8 @@ AllStorable size (r ∷ rs) = Storable size r × AllStorable size rs
 
 -- what is wrong with bytes that begin at a place p, where a record or the end should stand, and the layer that finds it
 pub data Flaw (size p : ℕ) : Layer → List ℕ → Fault → Type 0 where
-  -- nothing stands there
-  no_end : Flaw size p Reading [] (fault CutShort p)
+  -- nothing stands there, behind one byte or more
+  no_end : 0 < p → Flaw size p Reading [] (fault CutShort p)
   -- a record whose kind asks for more bytes than there are
   cut_short : (k : ℕ) (rest : List ℕ) → length (k ∷ rest) < kind_size k → Flaw size p Reading (k ∷ rest) (fault CutShort p)
   -- a kind that there is not
@@ -37,10 +37,15 @@ pub record Refused (size : ℕ) (bs : List ℕ) (x : Fault) : Type 0 where
   pub storable : AllStorable size before
   pub flaw : Flaw size (length (encode_records before)) (fault_layer x) rest x
 
--- the image is the encoding of n records that can be stored, and the end
+-- which bytes are an image of which records: no bytes of none, and else the encoding of the records and the end
+pub data ImageOf : List ℕ → List Record → Type 0 where
+  no_bytes : ImageOf [] []
+  encoded : (rs : List Record) → ImageOf (encode rs) rs
+
+-- the bytes are an image of n records that can be stored
 pub record Accepted (size : ℕ) (bs : List ℕ) (n : ℕ) : Type 0 where
   pub records : List Record
-  pub encoded : bs ≡ encode records
+  pub image : ImageOf bs records
   pub storable : AllStorable size records
   pub count : n ≡ length records
 
@@ -49,6 +54,6 @@ abbrev pub Told : ℕ → List ℕ → Result ℕ Fault → Type 0
 Told size bs (Ok n) = Accepted size bs n
 Told size bs (Err x) = Refused size bs x
 
--- every encoding of storable records is accepted
+-- every image of storable records is accepted
 abbrev pub Complete : ℕ → List ℕ → Result ℕ Fault → Type 0
-Complete size bs answer = (rs : List Record) → bs ≡ encode rs → AllStorable size rs → answer ≡ Ok (length rs)
+Complete size bs answer = (rs : List Record) → ImageOf bs rs → AllStorable size rs → answer ≡ Ok (length rs)

@@ -44,15 +44,17 @@ abbrev pub of_kind : List ℕ → ℕ → ℕ → ℕ → Result (Option Record)
 of_kind bs p k n =
     cond (n == 0) (Err (fault UnknownKind p)) (cond (k == 255) (end_at bs p) (whole bs p p n (Some (record_at bs p k))))
 
--- what stands at p: a record, the end (None), or a fault
+-- what stands at p: a record, no record (None), which is the end or an image of no bytes, or a fault
 abbrev pub item_at : List ℕ → ℕ → Result (Option Record) Fault
-item_at bs p = cond (nat_lt p (length bs)) (of_kind bs p (slice_index bs p) (kind_size (slice_index bs p))) (Err (fault CutShort p))
+item_at bs p =
+    cond (length bs == 0) (Ok None)
+    (cond (nat_lt p (length bs)) (of_kind bs p (slice_index bs p) (kind_size (slice_index bs p))) (Err (fault CutShort p)))
 
--- where a reader at p stands once it has read an item: behind it, or still at p after a fault
-abbrev pub place_after : ℕ → Result (Option Record) Fault → ℕ
-place_after p (Ok (Some r)) = p + size r
-place_after p (Ok None) = p + 1
-place_after p (Err x) = p
+-- where a reader at p stands once it has read an item: behind it, or still at p after a fault and where there are no bytes
+abbrev pub place_after : List ℕ → ℕ → Result (Option Record) Fault → ℕ
+place_after bs p (Ok (Some r)) = p + size r
+place_after bs p (Ok None) = cond (length bs == 0) p (p + 1)
+place_after bs p (Err x) = p
 
 -- a reader n bytes further on
 abbrev pub ahead : ℕ → Reader → Reader
@@ -63,7 +65,7 @@ abbrev pub and_then : {X Y : Type 0} → Result X Fault → (X → Result Y Faul
 and_then (Ok x) k = k x
 and_then (Err x) k = Err x
 
--- no record at the end, else what k makes of the record
+-- no more records where there is none, else what k makes of the record
 abbrev pub unless_end : Option Record → (Record → Result (List Record) Fault) → Result (List Record) Fault
 unless_end None k = Ok []
 unless_end (Some r) k = k r

@@ -23,7 +23,7 @@ pub enum Cause {
     NoLevel = 6,
     LevelZero = 7,
     UnknownKind = 9,
-    /// A record with too few bytes, or no end.
+    /// A record with too few bytes, or no end in an image of one or more bytes.
     CutShort = 10,
     /// Bytes behind the end.
     AfterEnd = 11,
@@ -58,7 +58,7 @@ impl Cause {
 }
 
 /// A refused image: the cause, and its byte place, which is the kind byte of the record at fault, the first byte behind
-/// the end, or the length of an image that has no end.
+/// the end, or the length of an image of whole records and no end.
 #[derive(Clone, Copy, PartialEq, Eq, Debug)]
 pub struct Fault {
     pub cause: Cause,

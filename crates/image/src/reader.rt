@@ -48,11 +48,14 @@ impl<'a> Reader<'a> {
         Ok(u16::from_be_bytes([self.byte(start)?, self.byte(start)?]))
     }
 
-    // A record, or `None` at the end, behind which no byte may stand.
+    // A record, or `None` at the end, behind which no byte may stand, and where there are no bytes.
     fn item(&mut self) -> Result<Option<Record>, Fault>
         ensures answer { result ≡ item_at self.old.bytes.now self.old.place }
-        ensures after { OnOk result (self.new.place ≡ place_after self.old.place result) }
+        ensures after { OnOk result (self.new.place ≡ place_after self.old.bytes.now self.old.place result) }
     {
+        if self.bytes.is_empty() {
+            return Ok(None);
+        }
         let start = self.place;
         let record = match self.byte(start)? {
             1 => Record::Word {
@@ -84,10 +87,11 @@ impl<'a> Reader<'a> {
         Ok(Some(record))
     }
 
-    /// The next record, or `None` at the end; after a fault the reader stands where it stood.
+    /// The next record, or `None` at the end; over no bytes there is none, however often it is asked. The reader then
+    /// stands behind what it read; after a fault, and over no bytes, it stands where it stood.
     pub fn next(&mut self) -> Result<Option<Record>, Fault>
         ensures answer { result ≡ item_at self.old.bytes.now self.old.place }
-        ensures after { self.new.place ≡ place_after self.old.place result }
+        ensures after { self.new.place ≡ place_after self.old.bytes.now self.old.place result }
         ensures same { self.new.bytes ≡ self.old.bytes }
     {
         let mut ahead = Reader {

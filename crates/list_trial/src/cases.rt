@@ -2,6 +2,7 @@
 
 /// Images that are accepted, and then those that are refused, by the numbers of their refusals.
 pub const CASES: [(&str, &[u8]); 29] = [
+    ("no bytes", b""),
     ("the end alone", b"\xff"),
     (
         "the first and last address, protection register and register",
@@ -37,7 +38,6 @@ pub const CASES: [(&str, &[u8]); 29] = [
     ("kind 0", b"\x00\xff"),
     ("kind 5 and nothing behind it", b"\x05"),
     ("kind 254 behind a record", b"\x03\x07\x00\x00\xfe\xff"),
-    ("no bytes", b""),
     ("no end", b"\x01\x00\x00\x00\x00"),
     ("a word cut short", b"\x04\x01\x01\x01\x00\x00\x00"),
     ("a protection register cut short", b"\x02\x00\x00"),

@@ -23,14 +23,14 @@ begin bs rs e = record { rest = rs; left = sym (from_start 8192 bs) ∙ e; whole
 -- in the terms of the code: ms are the reader's bytes
 module _ (ms bs : List ℕ) (p : ℕ) (same : ms ≡ bs) where
   -- the text t has the line of the record at p added to it
-  pub goes_on : (r : Record) (i : Option Record) (after : ℕ) → i ≡ Some r → Ok i ≡ item_at ms p → after ≡ place_after p (Ok i)
+  pub goes_on : (r : Record) (i : Option Record) (after : ℕ) → i ≡ Some r → Ok i ≡ item_at ms p → after ≡ place_after ms p (Ok i)
       → (t u : List ℕ) → Listing bs p t → u ≡ t ++ line (record_line r) → Listing bs after u
   goes_on r i after is answer stands t u so_far added rs accepted =
       let l = so_far rs accepted in
       let o = onward 8192 bs p l.rest r l.left (ap (λ b. item_at b p) (sym same) ∙ sym answer ∙ ap Ok is) in
       record {
         rest = o.0;
-        left = ap (from 8192 bs) (stands ∙ ap (λ j. place_after p (Ok j)) is) ∙ o.2;
+        left = ap (from 8192 bs) (stands ∙ ap (λ j. place_after ms p (Ok j)) is) ∙ o.2;
         whole =
             l.whole ∙ ap (λ qs. t ++ record_lines qs) o.1 ∙ sym (append_assoc t (line (record_line r)) (record_lines o.0))
             ∙ ap (λ z. z ++ record_lines o.0) (sym added);

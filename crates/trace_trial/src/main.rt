@@ -18,6 +18,8 @@ fn main(rt: HostRuntime) -> io::Result<()> {
     rt.print(console::run_line(b"\x01\x00\x00\x48\x00\xff"))?;
     rt.print(console::run_line(b"\x00"))?;
     rt.print(console::run_line(b""))?;
+    rt.println("a trace of no bytes")?;
+    rt.print(console::trace(heap, b"", 2, true, &[])?)?;
     rt.println("a refused image")?;
     rt.print(console::trace(heap, b"\x00", 5, true, &[])?)?;
     rt.println("a stall and an idle step")?;

@@ -40,6 +40,16 @@ impl fmt::Display for Ran {
     }
 }
 
+/// How many records an image has.
+#[derive(Drop)]
+pub(crate) struct Loaded(pub(crate) usize);
+
+impl fmt::Display for Loaded {
+    fn fmt<W: fmt::Write>(&self, f: &mut fmt::Formatter<W>) -> fmt::Result {
+        write!(f, "taken: {} records", self.0)
+    }
+}
+
 /// A word of memory or of a register.
 #[derive(Drop)]
 pub(crate) struct Word(pub(crate) u16);

@@ -6,6 +6,7 @@ use Rattle.worked.specs.Images.{Images}
 pub images : Images
 unfolding verdict records_from
 images = record {
+  no_bytes = refl;
   none = refl;
   word = refl;
   protection = refl;
@@ -31,7 +32,7 @@ images = record {
   short_protection = refl;
   short_register = refl;
   short_level = refl;
-  no_bytes = refl;
+  one_byte = refl;
   no_end = refl;
   after_end = refl;
   earliest = refl;
@@ -42,6 +43,8 @@ images = record {
   behind = refl;
   behind_end = refl;
   still = refl;
+  nothing = λ p. refl;
+  stays = λ p. refl;
   missing = refl;
   counted_records = refl;
   numbers = refl;

@@ -1,5 +1,5 @@
 -- Worked cases of images: what a whole image holds for a memory of 8,192 words, and the fault of any other.
-use Rattle.std.specs.Prelude.{◌≡◌, ℕ, List, [], ◌∷◌, map, Ok, Err, Result}
+use Rattle.std.specs.Prelude.{◌≡◌, ℕ, List, [], ◌∷◌, map, None, Ok, Err, Result}
 use Rattle.image.specs.declared.Cause.{Cause}
 use Rattle.image.specs.declared.Cause.TheVariants.{NoRegister, NoAddress, NoLevel, LevelZero, UnknownKind, CutShort, AfterEnd, NoState}
 use Rattle.image.specs.declared.Fault.{Fault}
@@ -15,6 +15,10 @@ use Rattle.machine.specs.Refusals.{number as call_number}
 abbrev pub held : List ℕ → Result (List Record) Fault
 held bs = verdict 8192 bs
 
+-- where a reader at a place of bytes stands once it has read what is there
+abbrev pub left_at : List ℕ → ℕ → ℕ
+left_at bs p = place_after bs p (item_at bs p)
+
 -- one record
 abbrev pub one : Record → Result (List Record) Fault
 one r = Ok (r ∷ [])
@@ -29,7 +33,8 @@ causes = NoRegister ∷ NoAddress ∷ NoLevel ∷ LevelZero ∷ UnknownKind ∷ 
 
 -- what images hold, and how others are refused
 pub record Images : Type 0 where
-  -- the end alone, and a record of each kind, high bytes first
+  -- no bytes, the end alone, and a record of each kind, high bytes first
+  pub no_bytes : held [] ≡ Ok []
   pub none : held (255 ∷ []) ≡ Ok []
   pub word : held (1 ∷ 0x12 ∷ 0x34 ∷ 0x56 ∷ 0x78 ∷ 255 ∷ []) ≡ one (Word 0x1234 0x5678)
   pub protection : held (2 ∷ 3 ∷ 0x80 ∷ 0x01 ∷ 255 ∷ []) ≡ one (Protection 3 0x8001)
@@ -62,7 +67,7 @@ pub record Images : Type 0 where
   pub short_protection : held (2 ∷ 3 ∷ 0x80 ∷ []) ≡ at CutShort 0
   pub short_register : held (3 ∷ 7 ∷ 0 ∷ []) ≡ at CutShort 0
   pub short_level : held (4 ∷ 1 ∷ []) ≡ at CutShort 0
-  pub no_bytes : held [] ≡ at CutShort 0
+  pub one_byte : held (1 ∷ []) ≡ at CutShort 0
   pub no_end : held (4 ∷ 1 ∷ 0 ∷ []) ≡ at CutShort 3
   pub after_end : held (4 ∷ 1 ∷ 0 ∷ 255 ∷ 255 ∷ []) ≡ at AfterEnd 4
   -- the earliest record wins; in it reading goes first, then the fields from the left
@@ -72,9 +77,12 @@ pub record Images : Type 0 where
   pub number_first : held (4 ∷ 16 ∷ 3 ∷ 255 ∷ []) ≡ at NoLevel 0
   pub zero_first : held (4 ∷ 0 ∷ 3 ∷ 255 ∷ []) ≡ at LevelZero 0
   -- a reader stands behind what it read, and after a fault where it stood; a field that is missing is told at its record
-  pub behind : place_after 3 (item_at (0 ∷ 0 ∷ 0 ∷ 4 ∷ 1 ∷ 0 ∷ []) 3) ≡ 6
-  pub behind_end : place_after 3 (item_at (0 ∷ 0 ∷ 0 ∷ 255 ∷ []) 3) ≡ 4
-  pub still : place_after 3 (item_at (0 ∷ 0 ∷ 0 ∷ 5 ∷ []) 3) ≡ 3
+  pub behind : left_at (0 ∷ 0 ∷ 0 ∷ 4 ∷ 1 ∷ 0 ∷ []) 3 ≡ 6
+  pub behind_end : left_at (0 ∷ 0 ∷ 0 ∷ 255 ∷ []) 3 ≡ 4
+  pub still : left_at (0 ∷ 0 ∷ 0 ∷ 5 ∷ []) 3 ≡ 3
+  -- over no bytes it finds no record and stands where it stood, so that it finds none when it is asked again
+  pub nothing : (p : ℕ) → item_at [] p ≡ Ok None
+  pub stays : (p : ℕ) → left_at [] p ≡ p
   pub missing : word_at (2 ∷ 3 ∷ 0x80 ∷ []) 0 2 ≡ Err (record { cause = CutShort; place = 0 })
   -- a load answers how many records there are
   pub counted_records : counted 0 (held (3 ∷ 1 ∷ 2 ∷ 0 ∷ 4 ∷ 3 ∷ 1 ∷ 255 ∷ [])) ≡ Ok 2

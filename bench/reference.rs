@@ -773,7 +773,7 @@ impl fmt::Display for Fault {
     }
 }
 
-/// The records of an image for a memory of some size, which are none where it has no bytes, or its first fault.
+/// The records of an image for a memory of some size, or its first fault. An image of no bytes has no records.
 fn read_image(image: &[u8], size: usize) -> Result<Vec<Record>, Fault> {
     let mut records = Vec::new();
     if image.is_empty() {

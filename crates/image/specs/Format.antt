@@ -58,7 +58,7 @@ abbrev pub encode_records : List Record → List ℕ
 encode_records [] = []
 encode_records (r ∷ rs) = encode_record r ++ encode_records rs
 
--- the bytes of an image: its records, then the end
+-- records as an image: their bytes, then the end
 abbrev pub encode : List Record → List ℕ
 encode rs = encode_records rs ++ (255 ∷ [])
 

@@ -65,16 +65,16 @@ abbrev pub and_then : {X Y : Type 0} → Result X Fault → (X → Result Y Faul
 and_then (Ok x) k = k x
 and_then (Err x) k = Err x
 
--- no more records where there is none, else what k makes of the record
-abbrev pub unless_end : Option Record → (Record → Result (List Record) Fault) → Result (List Record) Fault
-unless_end None k = Ok []
-unless_end (Some r) k = k r
+-- no records where none stands, else what k makes of the one that does
+abbrev pub unless_none : Option Record → (Record → Result (List Record) Fault) → Result (List Record) Fault
+unless_none None k = Ok []
+unless_none (Some r) k = k r
 
 -- the records from p on, if each can be stored beside `limit` words; the first number only bounds the recursion, and an image's length and 1 more is enough
 unfoldable pub records_from : ℕ → ℕ → List ℕ → ℕ → Result (List Record) Fault
 records_from zero limit bs p = Err (fault CutShort p)
 records_from (suc n) limit bs p =
-    and_then (item_at bs p) (λ item. unless_end item (λ r. and_then (storing limit p r) (λ _.
+    and_then (item_at bs p) (λ item. unless_none item (λ r. and_then (storing limit p r) (λ _.
     and_then (records_from n limit bs (p + size r)) (λ rs. Ok (r ∷ rs)))))
 
 -- the records of an image for a memory of `limit` words, or the fault that comes first

@@ -87,8 +87,8 @@ impl<'a> Reader<'a> {
         Ok(Some(record))
     }
 
-    /// The next record, or `None` at the end; over no bytes there is none, however often it is asked. The reader then
-    /// stands behind what it read; after a fault, and over no bytes, it stands where it stood.
+    /// The next record, or `None` at the end, and the reader stands behind it; after a fault it stands where it stood.
+    /// Over no bytes it answers `None` however often it is asked, and stays at 0.
     pub fn next(&mut self) -> Result<Option<Record>, Fault>
         ensures answer { result ≡ item_at self.old.bytes.now self.old.place }
         ensures after { self.new.place ≡ place_after self.old.bytes.now self.old.place result }

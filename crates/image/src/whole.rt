@@ -5,8 +5,8 @@ ghost use Rattle.image.specs.Reading.{counted, verdict};
 
 use crate::{Fault, Reader};
 
-/// How many records an image has for a memory of `size` words, which are 0 where it has no bytes, or the fault that
-/// comes first.
+/// How many records an image has for a memory of `size` words, or the fault that comes first. An image of no bytes has
+/// 0 records.
 pub fn check(bytes: &[u8], size: u32) -> Result<usize, Fault>
     ensures answer { result ≡ counted 0 (verdict size bytes.now) }
     ensures told { Told size bytes.now result }

@@ -1,5 +1,5 @@
 -- Worked cases of images: what a whole image holds for a memory of 8,192 words, and the fault of any other.
-use Rattle.std.specs.Prelude.{◌≡◌, ℕ, List, [], ◌∷◌, map, None, Ok, Err, Result}
+use Rattle.std.specs.Prelude.{◌≡◌, ℕ, ◌<◌, List, [], ◌∷◌, length, map, None, Ok, Err, Result}
 use Rattle.image.specs.declared.Cause.{Cause}
 use Rattle.image.specs.declared.Cause.TheVariants.{NoRegister, NoAddress, NoLevel, LevelZero, UnknownKind, CutShort, AfterEnd, NoState}
 use Rattle.image.specs.declared.Fault.{Fault}
@@ -8,6 +8,7 @@ use Rattle.image.specs.declared.Record.{Record}
 use Rattle.image.specs.declared.Record.TheVariants.{Word, Protection, Register, Level}
 use Rattle.machine.specs.declared.refusal.Refusal.TheVariants.{NoRegister as CallNoRegister, NoAddress as CallNoAddress, NoLevel as CallNoLevel, LevelZero as CallLevelZero}
 use Rattle.image.specs.Format.{encode, fault, fault_layer, layer, number}
+use Rattle.image.specs.Law.{Refused}
 use Rattle.image.specs.Reading.{counted, item_at, place_after, verdict, word_at}
 use Rattle.machine.specs.Refusals.{number as call_number}
 
@@ -80,10 +81,12 @@ pub record Images : Type 0 where
   pub behind : left_at (0 ∷ 0 ∷ 0 ∷ 4 ∷ 1 ∷ 0 ∷ []) 3 ≡ 6
   pub behind_end : left_at (0 ∷ 0 ∷ 0 ∷ 255 ∷ []) 3 ≡ 4
   pub still : left_at (0 ∷ 0 ∷ 0 ∷ 5 ∷ []) 3 ≡ 3
+  pub missing : word_at (2 ∷ 3 ∷ 0x80 ∷ []) 0 2 ≡ Err (record { cause = CutShort; place = 0 })
   -- over no bytes it finds no record and stands where it stood, so that it finds none when it is asked again
   pub nothing : (p : ℕ) → item_at [] p ≡ Ok None
   pub stays : (p : ℕ) → left_at [] p ≡ p
-  pub missing : word_at (2 ∷ 3 ∷ 0x80 ∷ []) 0 2 ≡ Err (record { cause = CutShort; place = 0 })
+  -- whatever the law says is refused has one byte or more
+  pub some_byte : (size : ℕ) (bs : List ℕ) (x : Fault) → Refused size bs x → 0 < length bs
   -- a load answers how many records there are
   pub counted_records : counted 0 (held (3 ∷ 1 ∷ 2 ∷ 0 ∷ 4 ∷ 3 ∷ 1 ∷ 255 ∷ [])) ≡ Ok 2
   -- the numbers and the layers, which are those of a fault wherever it is; where a call refuses the same, it has the same number

@@ -3,11 +3,15 @@ use Rattle.std.proofs.Common.{ℕ, ◌+◌, ◌<◌, List, length, refl, ap, ari
 use Rattle.std.proofs.lemmas.List.{length-append}
 use Rattle.image.specs.declared.Fault.{Fault}
 use Rattle.image.specs.declared.Layer.{Layer}
+use Rattle.image.specs.declared.Record.{Record}
 use Rattle.image.specs.Format.{encode_record, encode_records}
 use Rattle.image.specs.Law.{Flaw, Refused, after_end, cut_short, no_end, not_storable, unknown_kind}
 use Rattle.image.specs.Reading.{records_from, verdict}
-use Rattle.image.proofs.Items.{size_pos}
 use Rattle.worked.specs.Images.{Images}
+
+-- a record has a byte
+has_kind : (r : Record) → 0 < length (encode_record r)
+has_kind r = grind arith
 
 -- a byte stands before a flaw, or in it
 reached : (size p : ℕ) (l : Layer) (bs : List ℕ) (x : Fault) → Flaw size p l bs x → 0 < p + length bs
@@ -15,7 +19,7 @@ reached size p _ _ _ (no_end h) = omega arith
 reached size p _ _ _ (cut_short k rest h) = omega arith
 reached size p _ _ _ (unknown_kind k rest e) = omega arith
 reached size p _ _ _ (after_end b rest) = omega arith
-reached size p _ _ _ (not_storable r rest x e) = omega (arith, length-append (encode_record r) rest, size_pos r)
+reached size p _ _ _ (not_storable r rest x e) = omega (arith, length-append (encode_record r) rest, has_kind r)
 
 some_byte : (size : ℕ) (bs : List ℕ) (x : Fault) → Refused size bs x → 0 < length bs
 some_byte size bs x r =

@@ -37,7 +37,7 @@ pub record Refused (size : ℕ) (bs : List ℕ) (x : Fault) : Type 0 where
   pub storable : AllStorable size before
   pub flaw : Flaw size (length (encode_records before)) (fault_layer x) rest x
 
--- which bytes are an image of which records: no bytes of none, and else the encoding of the records and the end
+-- bytes as an image of records: no bytes are an image of no records, and an encoding, which has the end, is one of its records
 pub data ImageOf : List ℕ → List Record → Type 0 where
   no_bytes : ImageOf [] []
   encoded : (rs : List Record) → ImageOf (encode rs) rs

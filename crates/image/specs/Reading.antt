@@ -44,7 +44,7 @@ abbrev pub of_kind : List ℕ → ℕ → ℕ → ℕ → Result (Option Record)
 of_kind bs p k n =
     cond (n == 0) (Err (fault UnknownKind p)) (cond (k == 255) (end_at bs p) (whole bs p p n (Some (record_at bs p k))))
 
--- what stands at p: a record, no record (None), which is the end or an image of no bytes, or a fault
+-- what stands at p: a record; None at the end, and in an image of no bytes; or a fault
 abbrev pub item_at : List ℕ → ℕ → Result (Option Record) Fault
 item_at bs p =
     cond (length bs == 0) (Ok None)

@@ -48,7 +48,7 @@ impl<'a> Reader<'a> {
         Ok(u16::from_be_bytes([self.byte(start)?, self.byte(start)?]))
     }
 
-    // A record, or `None` at the end, behind which no byte may stand, and where there are no bytes.
+    // A record; or `None` over no bytes, and at the end, behind which no byte may stand.
     fn item(&mut self) -> Result<Option<Record>, Fault>
         ensures answer { result ≡ item_at self.old.bytes.now self.old.place }
         ensures after { OnOk result (self.new.place ≡ place_after self.old.bytes.now self.old.place result) }

@@ -1,15 +1,11 @@
 -- Going through the levels one by one.
-use Rattle.std.proofs.Common.{◌≡◌, ℕ, zero, suc, ◌+◌, ◌-◌, ◌<◌, Bool, true, false, cond, List, length, drop, set, None, Some, Option, sym, refl, ap, ◌∙◌, arith, drop-cons}
-use Rattle.std.specs.List.{position, position_from}
-use Rattle.std.proofs.lemmas.List.{drop_all}
-use Rattle.std.proofs.lemmas.Iterator.Adapters.{position_from-zero}
+use Rattle.std.proofs.Common.{◌≡◌, ℕ, zero, suc, ◌+◌, ◌-◌, ◌<◌, Bool, true, false, cond, List, set, None, Some, Option, refl, ◌∙◌, arith}
+use Rattle.std.specs.List.{find, range_with_len}
 use Rattle.levels.specs.declared.level.LevelControl.{LevelControl}
-use Rattle.levels.specs.declared.level.Event.TheVariants.{Exit}
 use Rattle.levels.specs.declared.level.Level.{Level}
 use Rattle.levels.specs.declared.level.LevelState.{LevelState}
 use Rattle.levels.specs.declared.level.LevelState.TheVariants.{Disarmed, Armed, Waiting, Active}
-use Rattle.levels.specs.declared.level.Property.TheVariants.{Active as ActiveProperty}
-use Rattle.levels.specs.Levels.{Quiet, choose, control_each, controlled, has, inhibited, is_active, is_waiting, level_at, lowest, preset, released, sighted, sighted_by, told}
+use Rattle.levels.specs.Levels.{Quiet, choose, control_each, controlled, inhibited, is_waiting, level_at, lowest, sighted, sighted_by}
 use Rattle.levels.specs.Bits.{bit}
 
 -- what a scan over the n levels from k on comes to, one level further
@@ -48,24 +44,14 @@ unfolding lowest
 quiet_lowest zero k ii ei ls q = refl
 quiet_lowest (suc n) k ii ei ls q = passes (inhibited ii ei k) (level_at ls k).state (level_at ls k).enabled k (lowest n (suc k) ii ei ls) (q k) (quiet_lowest n (suc k) ii ei ls q)
 
--- the records after the level that was found, if any, has taken the exit event
-abbrev given : List Level → Option ℕ → List Level
-given ls None = ls
-given ls (Some k) = told k Exit ls
+-- a turn of the search for the first level that a test holds of
+pub tries : (t : ℕ → Bool) (k : ℕ) → k < 16 → find t (range_with_len k (16 - k)) ≡ cond (t k) (Some k) (find t (range_with_len (k + 1) (16 - (k + 1))))
+tries t k h = rw (less k h) refl
 
-given_cond : (ls : List Level) (b : Bool) (k : ℕ) (r : Option ℕ) (rest : List Level) → rest ≡ given ls r → cond b (told k Exit ls) rest ≡ given ls (cond b (Some k) r)
-given_cond ls true k r rest e = refl
-given_cond ls false k r rest e = e
+pub tries_none : (t : ℕ → Bool) (n k : ℕ) → n ≡ 0 → find t (range_with_len k n) ≡ None
+tries_none t n k e = rw e
 
-released_from : (n k : ℕ) (ls : List Level) → length ls ≡ n + k → released n k ls ≡ given ls (position_from (has ActiveProperty) k (drop k ls))
-unfolding released
-released_from zero k ls e = rw (drop_all k ls (omega arith)) refl
-released_from (suc n) k ls e =
-    let z : k + 1 ≡ suc k = omega arith in
-    rw (drop-cons ls k (preset 0) (omega arith), z) (given_cond ls (is_active (level_at ls k).state) k _ _ (released_from n (suc k) ls (omega arith)))
-
-pub released_found : (ls : List Level) (r : Option ℕ) → length ls ≡ 16 → r ≡ position (has ActiveProperty) ls → given ls r ≡ released 16 0 ls
-released_found ls r e p = sym (released_from 16 0 ls e ∙ ap (given ls) (sym (p ∙ position_from-zero (has ActiveProperty) ls)))
+pub ruleset finding = (tries, tries_none)
 
 control_suc : (n k : ℕ) (c : LevelControl) (a : ℕ) (ls : List Level)
     → control_each (suc n) k c a ls ≡ control_each n (suc k) c a (cond (bit a k) (set ls k (controlled c (level_at ls k))) ls)

@@ -1,5 +1,7 @@
 -- Levels: what events and controls make of one, which one may enter, and which one exits.
-use Rattle.std.specs.Prelude.{◌≡◌, ℕ, zero, suc, ◌+◌, ◌-◌, ◌*◌, ◌^◌, Bool, true, false, cond, List, Some, None, Option, ◌==◌, nat_lt, slice_index_or, slice_set}
+use Rattle.std.specs.Prelude.{◌≡◌, ℕ, zero, suc, ◌+◌, ◌-◌, ◌*◌, ◌^◌, Bool, true, false, cond, not, ◌&&◌, List, Some, None, Option, ◌==◌, nat_lt, slice_index_or, slice_set}
+use Rattle.std.specs.Option.{option_map_or, option_or}
+use Rattle.std.specs.List.{find, range_with_len}
 use Rattle.levels.specs.declared.level.LevelControl.{LevelControl}
 use Rattle.levels.specs.declared.level.LevelControl.TheVariants.{Disarm as DisarmControl, Arm as ArmControl, Disable, Enable, Trigger as TriggerControl}
 use Rattle.levels.specs.declared.level.Property.{Property}
@@ -130,7 +132,18 @@ unfoldable pub lowest : ℕ → ℕ → Bool → Bool → List Level → Option 
 lowest zero k ii ei ls = None
 lowest (suc n) k ii ei ls = choose (sighted (inhibited ii ei k) (level_at ls k)) k (lowest n (suc k) ii ei ls)
 
--- of the n levels from k on, the lowest active one takes the exit event
-unfoldable pub released : ℕ → ℕ → List Level → List Level
-released zero k ls = ls
-released (suc n) k ls = cond (is_active (level_at ls k).state) (told k Exit ls) (released n (suc k) ls)
+-- whether level k is active and not inhibited
+abbrev pub runs : Bool → Bool → List Level → ℕ → Bool
+runs ii ei ls k = is_active (level_at ls k).state && not (inhibited ii ei k)
+
+-- the lowest level that is active and not inhibited
+unfoldable pub lowest_active : Bool → Bool → List Level → Option ℕ
+lowest_active ii ei ls = find (runs ii ei ls) (range_with_len 0 16)
+
+-- the level that an exit clears: the lowest active one that is not inhibited, or else, as if none were inhibited, the lowest active one
+abbrev pub exiting : Bool → Bool → List Level → Option ℕ
+exiting ii ei ls = option_or (lowest_active ii ei ls) (lowest_active false false ls)
+
+-- the records after that level, if there is one, has taken the exit event
+unfoldable pub released : Bool → Bool → List Level → List Level
+released ii ei ls = option_map_or (λ k. told k Exit ls) (exiting ii ei ls) ls

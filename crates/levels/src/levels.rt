@@ -75,12 +75,13 @@ impl Levels {
         self.bank.lowest(inhibits)
     }
 
-    /// Hands the exit event to the lowest active level.
-    pub fn release(&mut self)
-        ensures { records self.new ≡ released 16 0 (records self.old) }
+    /// Hands the exit event to the lowest active level that is not inhibited, or to the lowest active one where all are inhibited;
+    /// where none is active, all stay.
+    pub fn release(&mut self, inhibits: Inhibits)
+        ensures { records self.new ≡ released inhibits.ii inhibits.ei (records self.old) }
     {
         self.calm = false;
-        self.bank.release();
+        self.bank.release(inhibits);
     }
 
     /// Hands a control of WD to each of levels 1 to 15 whose bit is 1.

@@ -3,7 +3,7 @@ ghost use Rattle.std.specs.Prelude.{◌≡◌};
 ghost use Rattle.std.specs.List.{list_any};
 ghost use Rattle.levels.specs.declared.level.Property.TheVariants.{Waiting};
 ghost use Rattle.levels.specs.Banks.{records};
-ghost use Rattle.levels.specs.Levels.{bits_of, control_each, has, lowest as entering, released};
+ghost use Rattle.levels.specs.Levels.{bits_of, control_each, has, lowest as entering, lowest_active, released};
 
 use crate::bank::Bank;
 use crate::inhibits::Inhibits;
@@ -34,16 +34,30 @@ impl Bank {
         self.all().iter().any(|level| level.has(Property::Waiting))
     }
 
-    /// Hands the exit event to the lowest active level.
-    pub(crate) fn release(&mut self)
-        ensures { records self.new ≡ released 16 0 (records self.old) }
+    /// The lowest level that is active and not inhibited.
+    #[tactic(auto, unfolding(crate::specs::Levels::lowest_active), using(crate::proofs::Turns::finding))]
+    pub(crate) fn lowest_active(&self, inhibits: Inhibits) -> Option<u8>
+        ensures { result ≡ lowest_active inhibits.ii inhibits.ei (records self.now) }
     {
-        let active = self
-            .all()
-            .iter()
-            .position(|level| level.has(Property::Active));
-        if let Some(number) = active {
-            self.tell(number as u8, Event::Exit);
+        for (place, level) in self.all().iter().enumerate() {
+            let number = place as u8;
+            if level.has(Property::Active) && !inhibits.cover(number) {
+                return Some(number);
+            }
+        }
+        None
+    }
+
+    /// Hands the exit event to the lowest active level that is not inhibited, or to the lowest active one where all are inhibited.
+    #[tactic(auto, unfolding(crate::specs::Levels::released))]
+    pub(crate) fn release(&mut self, inhibits: Inhibits)
+        ensures { records self.new ≡ released inhibits.ii inhibits.ei (records self.old) }
+    {
+        let exiting = self
+            .lowest_active(inhibits)
+            .or_else(|| self.lowest_active(Inhibits::default()));
+        if let Some(number) = exiting {
+            self.tell(number, Event::Exit);
         }
     }
 

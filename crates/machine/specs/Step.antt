@@ -60,10 +60,10 @@ enter k m =
     let q : ℕ = entry_of k m.words in
     record { cpu = enter_cpu k q m.cpu; words = slice_set (slice_set m.words q (status m.cpu)) (word (q + 1)) m.cpu.work.p }
 
--- the cpu after an exit by the status words x and p: the lowest-numbered active level exits, and PP stays 1 with the switch off
+-- the cpu after an exit by the status words x and p: II and EI as they were before it say which level exits, and PP stays 1 with the switch off
 abbrev pub leave_cpu : ℕ → ℕ → Cpu → Cpu
 leave_cpu x p s =
-    let g : Guard = set_inhibits (bit x 12) (bit x 13) (set_levels (released 16 0 s.guard.levels) s.guard) in
+    let g : Guard = set_inhibits (bit x 12) (bit x 13) (set_levels (released s.guard.ii s.guard.ei s.guard.levels) s.guard) in
     set_pp (cond s.switch (bit x 11) true) (set_guard g (set_work (set_oc (bit x 14) (bit x 15) (set_p p s.work)) s))
 
 -- exit by the status words at a and a + 1

@@ -56,11 +56,11 @@ impl State {
         self.mark = Mark::Unset;
     }
 
-    /// Exit by two status words.
+    /// Exit by two status words: the inhibits as they are before it say which level exits.
     pub fn leave(&mut self, first: u16, second: u16)
         ensures { cpu_of self.new ≡ leave_cpu first second (cpu_of self.old) }
     {
-        self.levels.release();
+        self.levels.release(self.inhibits);
         self.work.p = second;
         self.work.o = bit_of(first, 14);
         self.work.c = bit_of(first, 15);

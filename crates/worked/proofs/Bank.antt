@@ -1,15 +1,14 @@
--- The laws of level records: controls, exits, and the bits that RD shows.
+-- The laws of level records: controls, and the bits that RD shows.
 use Rattle.std.proofs.Common.{◌≡◌, ℕ, zero, suc, ◌+◌, ◌-◌, ◌*◌, ◌/◌, ◌%◌, ◌^◌, ◌<◌, ◌≤◌, Bool, true, false, cond, eqb, List, length, set, sym, refl, ap, ◌∙◌, inl, inr, mod-lt, mod-eq_of_lt, arith, length-set, get_or-set_other, get_or-set_same}
 use native.Mathlib.Nat.{pow-succ'}
 use lib.Arith.{digits_div, digits_lt, digits_mod}
 use Rattle.std.proofs.lemmas.Nat.{field_of, mod-pow-add, pow_pos}
-use Rattle.std.proofs.lemmas.Bool.{both_ways, cases_eq}
-use Rattle.levels.specs.declared.level.Event.TheVariants.{Exit}
+use Rattle.std.proofs.lemmas.Bool.{cases_eq}
 use Rattle.levels.specs.declared.level.Level.{Level}
 use Rattle.levels.specs.declared.level.LevelControl.{LevelControl}
 use Rattle.levels.specs.declared.level.Property.{Property}
 use Rattle.levels.specs.Bits.{bit, one}
-use Rattle.levels.specs.Levels.{bits_of, control_each, controlled, has, is_active, level_at, preset, released, told}
+use Rattle.levels.specs.Levels.{bits_of, control_each, controlled, has, level_at, preset}
 
 -- CONTROLS
 
@@ -47,34 +46,6 @@ module _ (c : LevelControl) (a : ℕ) where
         | inl e ↦ rw e (below n (suc k) k (turn (bit a k) k ls) (omega arith) ∙ turn_own (bit a k) k ls (omega arith))
         | inr d ↦ within n (suc k) j (turn (bit a k) k ls) (omega arith) (omega arith) (omega (arith, turn_length (bit a k) k ls))
             ∙ ap (λ (r : Level). cond (bit a j) (controlled c r) r) (turn_other (bit a k) k j ls d)
-      ]
-
--- EXITS
-
-module _ (ls : List Level) where
-  abbrev active : ℕ → Bool
-  active j = is_active (level_at ls j).state
-
-  none_by : (b : Bool) (k : ℕ) (rest : List Level) → b ≡ false → cond b (told k Exit ls) rest ≡ rest
-  none_by true k rest e = absurd (both_ways true e refl)
-  none_by false k rest e = refl
-
-  first_by : (b : Bool) (k : ℕ) (rest : List Level) → b ≡ true → cond b (told k Exit ls) rest ≡ told k Exit ls
-  first_by true k rest e = refl
-  first_by false k rest e = absurd (both_ways false refl e)
-
-  pub none_exits : (n k : ℕ) → ((j : ℕ) → j < k + n → active j ≡ false) → released n k ls ≡ ls
-  unfolding released
-  none_exits zero k h = refl
-  none_exits (suc n) k h = none_by (active k) k (released n (suc k) ls) (h k (omega arith)) ∙ none_exits n (suc k) (λ j l. h j (omega arith))
-
-  pub first_exits : (n k i : ℕ) → k ≤ i → i < k + n → active i ≡ true → ((j : ℕ) → j < i → active j ≡ false) → released n k ls ≡ told i Exit ls
-  unfolding released
-  first_exits zero k i l m t h = absurd (omega arith)
-  first_exits (suc n) k i l m t h =
-      elim (cases_eq k i) [
-        | inl e ↦ first_by (active k) k (released n (suc k) ls) (ap active e ∙ t) ∙ ap (λ j. told j Exit ls) e
-        | inr d ↦ none_by (active k) k (released n (suc k) ls) (h k (omega arith)) ∙ first_exits n (suc k) i (omega arith) (omega arith) t h
       ]
 
 -- BITS

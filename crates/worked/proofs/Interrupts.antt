@@ -1,11 +1,11 @@
 -- The worked cases of levels, entries and exits, by computation.
 use Rattle.std.proofs.Common.{refl}
-use Rattle.levels.specs.Levels.{bits_of, control_each, lowest, released}
+use Rattle.levels.specs.Levels.{bits_of, control_each, lowest, lowest_active, released}
 use Rattle.machine.specs.Step.{instruction_at, step}
 use Rattle.worked.specs.Interrupts.{Entries, Exits, Levels}
 
 pub levels : Levels
-unfolding step instruction_at lowest bits_of control_each released
+unfolding step instruction_at lowest bits_of control_each lowest_active released
 levels = record {
   disarm = refl;
   arm = refl;
@@ -29,7 +29,7 @@ levels = record {
 }
 
 pub entries : Entries
-unfolding step instruction_at lowest bits_of control_each released
+unfolding step instruction_at lowest bits_of control_each lowest_active released
 entries = record {
   entered = refl;
   words = refl;
@@ -48,7 +48,7 @@ entries = record {
 }
 
 pub exits : Exits
-unfolding step instruction_at lowest bits_of control_each released
+unfolding step instruction_at lowest bits_of control_each lowest_active released
 exits = record {
   o_and_p = refl;
   c_and_p = refl;
@@ -65,6 +65,17 @@ exits = record {
   wrapped = refl;
   cleared = refl;
   each_exits = refl;
-  inhibited_exits = refl;
+  each_inhibited_exits = refl;
+  past_inhibited = refl;
+  lowest_uninhibited = refl;
+  zero_exits = refl;
+  one_exits = refl;
+  internal_exits = refl;
+  all_inhibited = refl;
+  all_internal = refl;
+  sets_ii = refl;
+  clears_ii = refl;
+  sets_ei = refl;
+  clears_ei = refl;
   none_exits = refl;
 }

@@ -8,7 +8,8 @@ use Rattle.levels.specs.declared.level.LevelState.TheVariants.{Disarmed, Armed, 
 use Rattle.levels.specs.declared.level.Sight.{Sight}
 use Rattle.levels.specs.declared.level.Sight.TheVariants.{Enters, Blocks, Passes}
 use Rattle.levels.specs.Levels.{choose, inhibited, is_active, is_waiting, level_at, lowest, preset, sighted, sighted_by, taken}
-use Rattle.worked.proofs.Bank.{below, first_exits, none_exits, shows, within}
+use Rattle.worked.proofs.Exits.{clears, exit_is}
+use Rattle.worked.proofs.Bank.{below, shows, within}
 use Rattle.worked.specs.Laws.{Laws, MayEnter}
 
 zero≢one : ◌≡◌ {A = ℕ} 0 1 → ⊥
@@ -157,8 +158,10 @@ laws = record {
   shows = λ p s k h. shows p s.guard.levels k h;
   controls = λ c s k l h m. within c s.work.a 15 1 k s.guard.levels l h m;
   leaves_zero = λ c s. below c s.work.a 15 1 0 s.guard.levels (omega arith);
-  exits = λ x p s k h t f. first_exits s.guard.levels 16 0 k (omega arith) h t f;
-  none_exits = λ x p s h. none_exits s.guard.levels 16 0 h;
+  exits = λ ea m e. rw (exit_is ea m e) (clears m.cpu.guard);
+  leaves = λ x p s. clears s.guard;
+  chosen_before = λ x y p q s. refl;
+  exits_load = λ ea m e. rw (exit_is ea m e) (refl, refl);
   sums = λ a b h k. (λ c. grind (arith, nat_tests), λ c. grind (arith, nat_tests));
   borrows = λ a b h k. (λ c. grind (arith, nat_tests), λ c. grind (arith, nat_tests));
 }

@@ -7,6 +7,7 @@ pub mod Calling
 pub mod Plans
 pub mod Images
 pub mod Bank
+pub mod Exits
 pub mod Laws
 pub mod Steps
 pub mod Runs

@@ -118,16 +118,26 @@ guard_after x = (stepped (leaving true Exit x 0x0123)).cpu.guard
 abbrev pub left : List Level
 left = slice_set (two 3 (level Armed true) 9 (level Active true)) 5 (level Waiting true)
 
--- a machine with the exit mark and the levels given, and an LDX of two words that are 0
-abbrev pub exit_of : Bool → List Level → List Level
-exit_of ii ls = (stepped (machine false true Exit (registers_of 4 7 false false) (guarded ii false ls) (words_with ((0x0300, 0xc020) ∷ [])))).cpu.guard.levels
+-- the guard after an exit by the first status word x and the second 0, from the II, EI and levels given
+abbrev pub exit_of : Bool → Bool → ℕ → List Level → Guard
+exit_of ii ei x ls = (stepped (machine false true Exit (registers_of 4 7 false false) (guarded ii ei ls) (words_with ((0x0300, 0xc020) ∷ (0x0020, x) ∷ [])))).cpu.guard
+
+-- levels of which j and k are active, but that j, or k, is armed
+abbrev pub both : ℕ → ℕ → List Level
+both j k = two j (level Active true) k (level Active true)
+
+abbrev pub lower_left : ℕ → ℕ → List Level
+lower_left j k = two j (level Armed true) k (level Active true)
+
+abbrev pub upper_left : ℕ → ℕ → List Level
+upper_left j k = two j (level Active true) k (level Armed true)
 
 -- what an exit loads and leaves
 pub record Exits : Type 0 where
   -- P, O and C are loaded, and X1 is not
   pub o_and_p : shown (leaving true Exit 0x0002 0x0123) ≡ 0x0123 ∷ 2 ∷ 3 ∷ 4 ∷ 5 ∷ 6 ∷ 7 ∷ 1 ∷ 0 ∷ []
   pub c_and_p : shown (leaving true Exit 0x0001 0x0123) ≡ 0x0123 ∷ 2 ∷ 3 ∷ 4 ∷ 5 ∷ 6 ∷ 7 ∷ 0 ∷ 1 ∷ []
-  -- II and EI are loaded, the lowest active level becomes armed and the others stay
+  -- II and EI are loaded, the lowest active level, which neither inhibits, becomes armed, and the others stay
   pub inhibit_ii : guard_after 0x0008 ≡ guarded true false left
   pub inhibit_ei : guard_after 0x0004 ≡ guarded false true left
   -- PP is loaded with the switch on
@@ -150,8 +160,24 @@ pub record Exits : Type 0 where
       ≡ 0x0123 ∷ 2 ∷ 3 ∷ 0xffff ∷ 5 ∷ 0x8006 ∷ 7 ∷ 0 ∷ 0 ∷ []
   -- any instruction clears the exit mark
   pub cleared : (stepped (machine false true Exit (registers_of 4 7 false false) (guarded false false resting) (words_with ((0x0300, 0x8010) ∷ [])))).cpu.mark ≡ Unset
-  -- each level may exit, also where it is inhibited
-  pub each_exits : map (λ (k : ℕ). exit_of false (only k (level Active true))) (range_with_len 0 16) ≡ map (λ (k : ℕ). only k (level Armed true)) (range_with_len 0 16)
-  pub inhibited_exits : exit_of true (two 3 (level Active true) 9 (level Active true)) ≡ two 3 (level Armed true) 9 (level Active true)
+  -- the only active level exits, and it does so also where II and EI inhibit it
+  pub each_exits : map (λ (k : ℕ). (exit_of false false 0 (only k (level Active true))).levels) (range_with_len 0 16) ≡ map (λ (k : ℕ). only k (level Armed true)) (range_with_len 0 16)
+  pub each_inhibited_exits : map (λ (k : ℕ). (exit_of true true 0 (only k (level Active true))).levels) (range_with_len 0 16) ≡ map (λ (k : ℕ). only k (level Armed true)) (range_with_len 0 16)
+  -- a level that II inhibits stays active, and the lowest of those that EI does not inhibit exits
+  pub past_inhibited : map (λ (k : ℕ). (exit_of true false 0x0008 (both k 9)).levels) (range_with_len 2 6) ≡ map (λ (k : ℕ). upper_left k 9) (range_with_len 2 6)
+  pub lowest_uninhibited : (exit_of true false 0x0008 (slice_set (both 9 12) 3 (level Active true))).levels ≡ slice_set (lower_left 9 12) 3 (level Active true)
+  -- levels 0 and 1 are not inhibited
+  pub zero_exits : (exit_of true false 0x0008 (both 0 9)).levels ≡ lower_left 0 9
+  pub one_exits : (exit_of true true 0x000c (both 1 9)).levels ≡ lower_left 1 9
+  -- EI alone inhibits no level of 2 to 7
+  pub internal_exits : (exit_of false true 0x0004 (both 7 8)).levels ≡ lower_left 7 8
+  -- where both inhibit all that are active, the lowest of them exits
+  pub all_inhibited : (exit_of true true 0x000c (both 3 9)).levels ≡ lower_left 3 9
+  pub all_internal : (exit_of true false 0x0008 (both 3 5)).levels ≡ lower_left 3 5
+  -- a first status word that sets or clears II or EI does so after the level was chosen
+  pub sets_ii : exit_of false false 0x0008 (both 3 9) ≡ guarded true false (lower_left 3 9)
+  pub clears_ii : exit_of true false 0 (both 3 9) ≡ guarded false false (upper_left 3 9)
+  pub sets_ei : exit_of true false 0x000c (both 3 9) ≡ guarded true true (upper_left 3 9)
+  pub clears_ei : exit_of true true 0x0008 (both 3 9) ≡ guarded true false (lower_left 3 9)
   -- where none is active all stay
-  pub none_exits : exit_of false (two 3 (level Waiting true) 9 (level Disarmed false)) ≡ two 3 (level Waiting true) 9 (level Disarmed false)
+  pub none_exits : (exit_of false false 0 (two 3 (level Waiting true) 9 (level Disarmed false))).levels ≡ two 3 (level Waiting true) 9 (level Disarmed false)

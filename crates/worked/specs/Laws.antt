@@ -10,8 +10,11 @@ use Rattle.machine.specs.declared.instruction.WriteFunction.TheVariants.{Levels 
 use Rattle.levels.specs.Bits.{bit}
 use Rattle.machine.specs.Arithmetic.{added, subtracted}
 use Rattle.levels.specs.Levels.{controlled, enabling, has, inhibited, is_active, is_waiting, level_at, lowest, taken, told}
-use Rattle.machine.specs.State.{Cpu}
-use Rattle.machine.specs.Step.{leave_cpu, read_function, write_function}
+use Rattle.machine.specs.declared.instruction.Instruction.TheVariants.{Ldx}
+use Rattle.machine.specs.declared.state.Mark.TheVariants.{Exit as ExitMark}
+use Rattle.machine.specs.State.{Cpu, Guard, Machine}
+use Rattle.machine.specs.Step.{fetch_pp, instruction, leave_cpu, read_function, step, write_function}
+use Rattle.machine.specs.Words.{protects, read}
 
 -- level k may enter: it is waiting, enabled and not inhibited, and no lower-numbered uninhibited level is active
 pub record MayEnter (ii ei : Bool) (ls : List Level) (k : ℕ) : Type 0 where
@@ -19,6 +22,42 @@ pub record MayEnter (ii ei : Bool) (ls : List Level) (k : ℕ) : Type 0 where
   pub enabled : (level_at ls k).enabled ≡ true
   pub free : inhibited ii ei k ≡ false
   pub unblocked : (j : ℕ) → j < k → (inhibited ii ei j ≡ true) ⊎ (is_active (level_at ls j).state ≡ false)
+
+-- whether level k is active
+abbrev pub active_at : Guard → ℕ → Bool
+active_at g k = is_active (level_at g.levels k).state
+
+-- level k is active and not inhibited
+pub record Runs (g : Guard) (k : ℕ) : Type 0 where
+  pub active : active_at g k ≡ true
+  pub free : inhibited g.ii g.ei k ≡ false
+
+-- level k is the lowest-numbered active one of levels 0 to 15
+pub record LowestActive (g : Guard) (k : ℕ) : Type 0 where
+  pub within : k < 16
+  pub active : active_at g k ≡ true
+  pub first : (j : ℕ) → j < k → active_at g j ≡ false
+
+-- ls is what an exit makes of the level records, where g has these, II and EI as they are when the LDX begins
+pub record Clears (g : Guard) (ls : List Level) : Type 0 where
+  -- the lowest-numbered active level that is not inhibited exits, and the others keep their records
+  pub lowest : (k : ℕ) → k < 16 → Runs g k → ((j : ℕ) → j < k → Runs g j → ⊥) → ls ≡ told k Exit g.levels
+  -- where every active level is inhibited, the lowest of them
+  pub all_inhibited : (k : ℕ) → LowestActive g k → ((j : ℕ) → j < 16 → Runs g j → ⊥) → ls ≡ told k Exit g.levels
+  -- where no active level is inhibited, the lowest of them
+  pub none_inhibited : (k : ℕ) → LowestActive g k → ((j : ℕ) → j < 16 → active_at g j ≡ true → inhibited g.ii g.ei j ≡ false) → ls ≡ told k Exit g.levels
+  -- where none is active, all stay
+  pub none_active : ((j : ℕ) → j < 16 → active_at g j ≡ false) → ls ≡ g.levels
+  -- while II is 1, EI 0, and levels 0 and 1 are not active, the lowest active level of 8 to 15 exits, and an active one of 2 to 7 stays so
+  pub held_back : g.ii ≡ true → g.ei ≡ false → active_at g 0 ≡ false → active_at g 1 ≡ false → (j : ℕ) → 2 ≤ j → j < 8 → active_at g j ≡ true
+      → (k : ℕ) → 8 ≤ k → k < 16 → active_at g k ≡ true → ((i : ℕ) → 8 ≤ i → i < k → active_at g i ≡ false)
+      → (ls ≡ told k Exit g.levels) × (level_at ls j ≡ level_at g.levels j)
+
+-- the next step of m is an exit by the status words at ea and ea + 1: the exit mark is set, the fetch leaves PP 1, and an LDX stands at P
+pub record ExitsBy (ea : ℕ) (m : Machine) : Type 0 where
+  pub mark : m.cpu.mark ≡ ExitMark
+  pub fetch : fetch_pp m.cpu.switch m.cpu.pp (protects m.cpu.guard.protection m.cpu.work.p) ≡ Some true
+  pub ldx : instruction m ≡ Ldx ea
 
 -- what holds of every machine, whatever it is
 pub record Laws : Type 0 where
@@ -39,10 +78,13 @@ pub record Laws : Type 0 where
       → level_at (write_function (WriteLevels c) s).guard.levels k ≡ cond (bit s.work.a k) (controlled c (level_at s.guard.levels k)) (level_at s.guard.levels k)
   -- and it leaves level 0
   pub leaves_zero : (c : LevelControl) (s : Cpu) → level_at (write_function (WriteLevels c) s).guard.levels 0 ≡ level_at s.guard.levels 0
-  -- an exit is told to the lowest-numbered active level, inhibited or not, and where none is active all records stay
-  pub exits : (x p : ℕ) (s : Cpu) (k : ℕ) → k < 16 → is_active (level_at s.guard.levels k).state ≡ true
-      → ((j : ℕ) → j < k → is_active (level_at s.guard.levels j).state ≡ false) → (leave_cpu x p s).guard.levels ≡ told k Exit s.guard.levels
-  pub none_exits : (x p : ℕ) (s : Cpu) → ((j : ℕ) → j < 16 → is_active (level_at s.guard.levels j).state ≡ false) → (leave_cpu x p s).guard.levels ≡ s.guard.levels
+  -- an exit clears a level by II and EI as they are before the step, and the status words, whatever they are, choose none
+  pub exits : (ea : ℕ) (m : Machine) → ExitsBy ea m → Clears m.cpu.guard (step m).after.cpu.guard.levels
+  pub leaves : (x p : ℕ) (s : Cpu) → Clears s.guard (leave_cpu x p s).guard.levels
+  pub chosen_before : (x y p q : ℕ) (s : Cpu) → (leave_cpu x p s).guard.levels ≡ (leave_cpu y q s).guard.levels
+  -- II and EI after it are those of the first status word
+  pub exits_load : (ea : ℕ) (m : Machine) → ExitsBy ea m
+      → ((step m).after.cpu.guard.ii ≡ bit (read m.words ea) 12) × ((step m).after.cpu.guard.ei ≡ bit (read m.words ea) 13)
   -- a sum and 65,536 times its carry is what was added
   pub sums : (a b : ℕ) → a < 65536 → b < 65536 → ((added a b false).carry ≡ false → (added a b false).word ≡ a + b) × ((added a b false).carry ≡ true → (added a b false).word + 65536 ≡ a + b)
   -- the carry of a difference is its borrow

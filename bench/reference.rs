@@ -531,14 +531,22 @@ impl Machine {
         sum.word
     }
 
-    /// Loads the two status words in place of X1, and ends the lowest-numbered active level.
+    /// Loads the two status words in place of X1, and ends the level that the inhibits of before choose.
     fn exit(&mut self, address: u16) {
+        let ending = self.level_that_exits(self.indicators);
         let loaded = Indicators::from_status_word(self.word(address));
         self.registers[P] = self.word(address.wrapping_add(1));
         self.indicators = Indicators { protect: loaded.protect || !self.protect_switch, ..loaded };
-        if let Some(level) = self.levels.iter_mut().find(|level| level.state == LevelState::Active) {
-            level.happen(LevelEvent::Exit);
+        if let Some(level) = ending {
+            self.levels[level].happen(LevelEvent::Exit);
         }
+    }
+
+    /// The lowest-numbered active level that is not inhibited; where all active ones are, the lowest-numbered of them.
+    fn level_that_exits(&self, indicators: Indicators) -> Option<usize> {
+        let mut active = (0..16).filter(|number| self.levels[*number].state == LevelState::Active);
+        let lowest = active.clone().next();
+        active.find(|number| !indicators.inhibits(*number)).or(lowest)
     }
 
     fn branch(&mut self, instruction: Instruction) {
@@ -1037,20 +1045,25 @@ struct View {
     level_waits: bool,
     active: Vec<usize>,
     inhibited: Vec<usize>,
+    /// The level that an exit ends, and the one that it would end by the inhibits that its first status word has.
+    exits: [Option<usize>; 2],
 }
 
 impl View {
     fn of(machine: &Machine) -> View {
         let place = machine.registers[P];
         let instruction = Instruction { address: place, word: machine.word(place) };
+        let address = machine.effective_address(instruction);
+        let loaded = Indicators::from_status_word(machine.word(address));
         let is_active = |number: &usize| machine.levels[*number].state == LevelState::Active;
         View {
             instruction,
-            address: machine.effective_address(instruction),
+            address,
             mark: machine.mark,
             level_waits: machine.level_that_may_enter().is_some(),
             active: (0..16).filter(is_active).collect(),
             inhibited: (0..16).filter(is_active).filter(|number| machine.indicators.inhibits(*number)).collect(),
+            exits: [machine.indicators, loaded].map(|indicators| machine.level_that_exits(indicators)),
         }
     }
 }
@@ -1174,13 +1187,24 @@ impl Coverage {
     fn meet_exit(&mut self, view: &View, after: &Machine) {
         // The page of the LDX tells an exit from a plain LDX, since PP after an exit is one that was loaded.
         let is_exit = !after.protect_switch || after.is_protected(view.instruction.address);
-        let is_inhibited = view.active.first().is_some_and(|level| view.inhibited.contains(level));
         self.meet_rule(!is_exit, "LDX after the exit mark in the background is plain");
-        self.meet_rule(is_exit && view.active.is_empty(), "an exit without an active level");
-        self.meet_rule(is_exit && view.active.len() == 1, "an exit from the only active level");
-        self.meet_rule(is_exit && view.active.len() > 1, "an exit from the lowest of several active levels");
-        self.meet_rule(is_exit && is_inhibited, "an exit from an inhibited level");
-        self.meet_rule(is_exit && !after.protect_switch, "an exit with the switch off");
+        if is_exit {
+            self.meet_rule(!after.protect_switch, "an exit with the switch off");
+            self.meet_rule(view.active.is_empty(), "an exit without an active level");
+            self.meet_rule(view.active.len() == 1, "an exit from the only active level");
+            self.meet_inhibits(view);
+        }
+    }
+
+    fn meet_inhibits(&mut self, view: &View) {
+        let is_inhibited = |level: &usize| view.inhibited.contains(level);
+        let all_are = !view.active.is_empty() && view.active.iter().all(is_inhibited);
+        let are_several = view.active.len() > 1;
+        self.meet_rule(!all_are && view.active.first().is_some_and(is_inhibited), "an exit past an inhibited active level");
+        self.meet_rule(all_are, "an exit where every active level is inhibited");
+        self.meet_rule(all_are && are_several, "an exit from the lowest of several, all inhibited");
+        self.meet_rule(view.inhibited.is_empty() && are_several, "an exit from the lowest of several, none inhibited");
+        self.meet_rule(view.exits[0] != view.exits[1], "an exit that loads inhibits by which another level would exit");
     }
 
     fn meet_direct(&mut self, view: &View, what: &str) {
@@ -1216,7 +1240,7 @@ impl Coverage {
     }
 }
 
-const RULES: [&str; 15] = [
+const RULES: [&str; 18] = [
     "LDX after the exit mark in the background is plain",
     "a store to an absent word is lost",
     "a store violation at an absent word",
@@ -1225,9 +1249,12 @@ const RULES: [&str; 15] = [
     "an entry clears the wait mark",
     "an entry past an inhibited active level",
     "an entry whose frame is absent",
-    "an exit from an inhibited level",
-    "an exit from the lowest of several active levels",
+    "an exit from the lowest of several, all inhibited",
+    "an exit from the lowest of several, none inhibited",
     "an exit from the only active level",
+    "an exit past an inhibited active level",
+    "an exit that loads inhibits by which another level would exit",
+    "an exit where every active level is inhibited",
     "an exit with the switch off",
     "an exit without an active level",
     "the exit mark holds an entry back",

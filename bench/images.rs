@@ -508,6 +508,77 @@ fn levels_family(random: &mut Random) -> Vec<u8> {
 }
 
 // ---------------------------------------------------------------------------------------------------------------------
+// The family of exits: levels that enter over one another while some are inhibited
+// ---------------------------------------------------------------------------------------------------------------------
+
+/// Shows in A which levels are active.
+fn show_active(program: &mut Program) {
+    program.reach(RD, 0x1002);
+}
+
+/// Sets II and EI, mostly one of them alone.
+fn set_inhibits(random: &mut Random, program: &mut Program) {
+    program.refer(LDA, random.pick(&[0x0008, 0x0008, 0x0008, 0x0004, 0x000c, 0x0000]));
+    program.reach(WD, STATUS);
+}
+
+/// Makes one level wait, or a few.
+fn trigger_some(random: &mut Random, program: &mut Program) {
+    let selection = match random.below(3) {
+        0 => 0x8000 >> random.within(2, 7),
+        1 => 0x8000 >> random.within(8, 15),
+        _ => random.word() & random.word(),
+    };
+    program.refer(LDA, selection);
+    program.reach(WD, TRIGGER);
+}
+
+/// A level that inhibits levels and makes others wait while it is active, and whose exit may load other inhibits.
+fn exits_handler(random: &mut Random, program: &mut Program, level: u16) {
+    let frame = frame_of(level);
+    program.begin_handler(level, frame);
+    if random.chance(60) {
+        set_inhibits(random, program);
+    }
+    if random.chance(60) {
+        trigger_some(random, program);
+    }
+    if random.chance(30) {
+        let loaded = random.pick(&[0x0010, 0x0014, 0x0018, 0x001c]);
+        program.refer(LDA, loaded);
+        program.reach(STA, frame);
+    }
+    if random.chance(50) {
+        show_active(program);
+    }
+    program.exit(frame);
+}
+
+fn exits_family(random: &mut Random) -> Vec<u8> {
+    let mut program = Program::new(0x0200);
+    program.image.protection(0, 0xff00);
+    for level in 0..16 {
+        exits_handler(random, &mut program, level);
+    }
+    for level in 1..16 {
+        program.image.level(level, 2);
+    }
+    program.at = 0x0200;
+    for _ in 0..random.within(4, 10) {
+        if random.chance(50) {
+            set_inhibits(random, &mut program);
+        }
+        trigger_some(random, &mut program);
+        show_active(&mut program);
+        if random.chance(20) {
+            stray_exit(random, &mut program);
+        }
+    }
+    program.reach(B, 0x0200);
+    program.end()
+}
+
+// ---------------------------------------------------------------------------------------------------------------------
 // The family of backgrounds: programs that violate
 // ---------------------------------------------------------------------------------------------------------------------
 
@@ -934,7 +1005,7 @@ struct Family {
     make: fn(&mut Random) -> Vec<u8>,
 }
 
-const FAMILIES: [Family; 10] = [
+const FAMILIES: [Family; 11] = [
     Family { name: "words", images: 1_500, most_signals: 20, make: words_family },
     Family { name: "levels", images: 1_500, most_signals: 60, make: levels_family },
     Family { name: "background", images: 1_000, most_signals: 12, make: background_family },
@@ -945,6 +1016,7 @@ const FAMILIES: [Family; 10] = [
     Family { name: "branches", images: 500, most_signals: 6, make: branches_family },
     Family { name: "damaged", images: 1_000, most_signals: 6, make: damaged_family },
     Family { name: "large", images: 100, most_signals: 6, make: large_family },
+    Family { name: "exits", images: 300, most_signals: 30, make: exits_family },
 ];
 
 fn signal_argument(random: &mut Random, steps: u64) -> String {

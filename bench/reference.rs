@@ -531,7 +531,7 @@ impl Machine {
         sum.word
     }
 
-    /// Loads the two status words in place of X1, and ends the level that the inhibits of before choose.
+    /// Loads the two status words in place of X1, and ends a level by the inhibits as they were before that.
     fn exit(&mut self, address: u16) {
         let ending = self.level_that_exits(self.indicators);
         let loaded = Indicators::from_status_word(self.word(address));
@@ -1045,8 +1045,12 @@ struct View {
     level_waits: bool,
     active: Vec<usize>,
     inhibited: Vec<usize>,
-    /// The level that an exit ends, and the one that it would end by the inhibits that its first status word has.
-    exits: [Option<usize>; 2],
+    indicators: Indicators,
+    /// The level that an exit ends.
+    exiting: Option<usize>,
+    /// The indicators that an exit loads, and the level that it would end by those.
+    loaded: Indicators,
+    exiting_by_loaded: Option<usize>,
 }
 
 impl View {
@@ -1063,7 +1067,10 @@ impl View {
             level_waits: machine.level_that_may_enter().is_some(),
             active: (0..16).filter(is_active).collect(),
             inhibited: (0..16).filter(is_active).filter(|number| machine.indicators.inhibits(*number)).collect(),
-            exits: [machine.indicators, loaded].map(|indicators| machine.level_that_exits(indicators)),
+            indicators: machine.indicators,
+            exiting: machine.level_that_exits(machine.indicators),
+            loaded,
+            exiting_by_loaded: machine.level_that_exits(loaded),
         }
     }
 }
@@ -1192,19 +1199,27 @@ impl Coverage {
             self.meet_rule(!after.protect_switch, "an exit with the switch off");
             self.meet_rule(view.active.is_empty(), "an exit without an active level");
             self.meet_rule(view.active.len() == 1, "an exit from the only active level");
-            self.meet_inhibits(view);
+            self.meet_exiting_level(view);
         }
     }
 
-    fn meet_inhibits(&mut self, view: &View) {
+    /// Which level an exit ends, by the inhibits before it and by those that it loads.
+    fn meet_exiting_level(&mut self, view: &View) {
         let is_inhibited = |level: &usize| view.inhibited.contains(level);
-        let all_are = !view.active.is_empty() && view.active.iter().all(is_inhibited);
+        let is_first_inhibited = view.active.first().is_some_and(is_inhibited);
+        let are_all_inhibited = !view.active.is_empty() && view.active.iter().all(is_inhibited);
         let are_several = view.active.len() > 1;
-        self.meet_rule(!all_are && view.active.first().is_some_and(is_inhibited), "an exit past an inhibited active level");
-        self.meet_rule(all_are, "an exit where every active level is inhibited");
-        self.meet_rule(all_are && are_several, "an exit from the lowest of several, all inhibited");
+        self.meet_rule(is_first_inhibited && !are_all_inhibited, "an exit past an inhibited active level");
+        self.meet_rule(!is_first_inhibited && !view.inhibited.is_empty(), "an exit below an inhibited active level");
+        self.meet_rule(are_all_inhibited, "an exit where every active level is inhibited");
+        self.meet_rule(are_all_inhibited && are_several, "an exit from the lowest of several, all inhibited");
         self.meet_rule(view.inhibited.is_empty() && are_several, "an exit from the lowest of several, none inhibited");
-        self.meet_rule(view.exits[0] != view.exits[1], "an exit that loads inhibits by which another level would exit");
+        let (old, new) = (view.indicators, view.loaded);
+        let sets = new.inhibit_internal && !old.inhibit_internal || new.inhibit_external && !old.inhibit_external;
+        let clears = old.inhibit_internal && !new.inhibit_internal || old.inhibit_external && !new.inhibit_external;
+        let is_another = view.exiting != view.exiting_by_loaded;
+        self.meet_rule(is_another && sets, "an exit that sets an inhibit by which another level would exit");
+        self.meet_rule(is_another && clears, "an exit that clears an inhibit without which another level would exit");
     }
 
     fn meet_direct(&mut self, view: &View, what: &str) {
@@ -1240,7 +1255,7 @@ impl Coverage {
     }
 }
 
-const RULES: [&str; 18] = [
+const RULES: [&str; 20] = [
     "LDX after the exit mark in the background is plain",
     "a store to an absent word is lost",
     "a store violation at an absent word",
@@ -1249,11 +1264,13 @@ const RULES: [&str; 18] = [
     "an entry clears the wait mark",
     "an entry past an inhibited active level",
     "an entry whose frame is absent",
+    "an exit below an inhibited active level",
     "an exit from the lowest of several, all inhibited",
     "an exit from the lowest of several, none inhibited",
     "an exit from the only active level",
     "an exit past an inhibited active level",
-    "an exit that loads inhibits by which another level would exit",
+    "an exit that clears an inhibit without which another level would exit",
+    "an exit that sets an inhibit by which another level would exit",
     "an exit where every active level is inhibited",
     "an exit with the switch off",
     "an exit without an active level",

@@ -133,17 +133,18 @@ lowest zero k ii ei ls = None
 lowest (suc n) k ii ei ls = choose (sighted (inhibited ii ei k) (level_at ls k)) k (lowest n (suc k) ii ei ls)
 
 -- whether level k is active and not inhibited
-abbrev pub runs : Bool → Bool → List Level → ℕ → Bool
-runs ii ei ls k = is_active (level_at ls k).state && not (inhibited ii ei k)
+abbrev pub active_uninhibited : Bool → Bool → List Level → ℕ → Bool
+active_uninhibited ii ei ls k = is_active (level_at ls k).state && not (inhibited ii ei k)
 
 -- the lowest level that is active and not inhibited
-unfoldable pub lowest_active : Bool → Bool → List Level → Option ℕ
-lowest_active ii ei ls = find (runs ii ei ls) (range_with_len 0 16)
+unfoldable pub lowest_uninhibited : Bool → Bool → List Level → Option ℕ
+lowest_uninhibited ii ei ls = find (active_uninhibited ii ei ls) (range_with_len 0 16)
 
--- the level that an exit clears: the lowest active one that is not inhibited, or else, as if none were inhibited, the lowest active one
-abbrev pub exiting : Bool → Bool → List Level → Option ℕ
-exiting ii ei ls = option_or (lowest_active ii ei ls) (lowest_active false false ls)
+-- the level that an exit clears: the lowest active one that is not inhibited; where all active ones are, the lowest of them, which is
+-- the one that is found with II and EI 0
+abbrev pub cleared : Bool → Bool → List Level → Option ℕ
+cleared ii ei ls = option_or (lowest_uninhibited ii ei ls) (lowest_uninhibited false false ls)
 
 -- the records after that level, if there is one, has taken the exit event
 unfoldable pub released : Bool → Bool → List Level → List Level
-released ii ei ls = option_map_or (λ k. told k Exit ls) (exiting ii ei ls) ls
+released ii ei ls = option_map_or (λ k. told k Exit ls) (cleared ii ei ls) ls

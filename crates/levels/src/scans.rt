@@ -3,7 +3,7 @@ ghost use Rattle.std.specs.Prelude.{◌≡◌};
 ghost use Rattle.std.specs.List.{list_any};
 ghost use Rattle.levels.specs.declared.level.Property.TheVariants.{Waiting};
 ghost use Rattle.levels.specs.Banks.{records};
-ghost use Rattle.levels.specs.Levels.{bits_of, control_each, has, lowest as entering, lowest_active, released};
+ghost use Rattle.levels.specs.Levels.{bits_of, control_each, has, lowest as entering, lowest_uninhibited, released};
 
 use crate::bank::Bank;
 use crate::inhibits::Inhibits;
@@ -35,9 +35,9 @@ impl Bank {
     }
 
     /// The lowest level that is active and not inhibited.
-    #[tactic(auto, unfolding(crate::specs::Levels::lowest_active), using(crate::proofs::Turns::finding))]
-    pub(crate) fn lowest_active(&self, inhibits: Inhibits) -> Option<u8>
-        ensures { result ≡ lowest_active inhibits.ii inhibits.ei (records self.now) }
+    #[tactic(auto, unfolding(crate::specs::Levels::lowest_uninhibited), using(crate::proofs::Turns::finding))]
+    pub(crate) fn lowest_uninhibited(&self, inhibits: Inhibits) -> Option<u8>
+        ensures { result ≡ lowest_uninhibited inhibits.ii inhibits.ei (records self.now) }
     {
         for (place, level) in self.all().iter().enumerate() {
             let number = place as u8;
@@ -54,8 +54,8 @@ impl Bank {
         ensures { records self.new ≡ released inhibits.ii inhibits.ei (records self.old) }
     {
         let exiting = self
-            .lowest_active(inhibits)
-            .or_else(|| self.lowest_active(Inhibits::default()));
+            .lowest_uninhibited(inhibits)
+            .or_else(|| self.lowest_uninhibited(Inhibits::default()));
         if let Some(number) = exiting {
             self.tell(number, Event::Exit);
         }

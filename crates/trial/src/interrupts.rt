@@ -143,7 +143,8 @@ const EXIT_SWITCH_OFF: Case = Case {
     ],
 };
 
-// Level 3 is active and blocks level 9 until it sets II, which inhibits levels 2 to 7.
+// Level 3 is active and blocks level 9 until it sets II, which inhibits levels 2 to 7. Level 9 exits, and level 3 stays active until
+// its own exit, where it is the only active level and inhibited; that clears II.
 const INHIBITED: Case = Case {
     name: "active level 3 and waiting level 9, II set",
     start: Start {
@@ -157,8 +158,18 @@ const INHIBITED: Case = Case {
             (0x0303, 0x0020),
             (0x0010, 0x0008),
             // RD of the active levels, by the word at 0x0011
+            (0x0304, 0x1411),
             (0x0902, 0x1411),
             (0x0011, 0x1002),
+            // WD of the exit mark
+            (0x0305, 0x0031),
+            (0x0903, 0x0031),
+            // LDX 0x0300 and LDX 0x0900
+            (0x0306, 0xc9fa),
+            (0x0904, 0xc9fc),
+            // RD of the active levels, and of the status word
+            (0x0400, 0x1411),
+            (0x0401, 0x1020),
         ],
         levels: &[3, 9],
         ..ZEROS
@@ -172,6 +183,20 @@ const INHIBITED: Case = Case {
         Act::Step,
         Act::Word(0x0900),
         Act::Word(0x0901),
+        Act::Step,
+        Act::Register(A),
+        // The exit of level 9.
+        Act::Step,
+        Act::Step,
+        Act::Register(P),
+        Act::Step,
+        Act::Register(A),
+        // The exit of level 3.
+        Act::Step,
+        Act::Step,
+        Act::Register(P),
+        Act::Step,
+        Act::Register(A),
         Act::Step,
         Act::Register(A),
     ],

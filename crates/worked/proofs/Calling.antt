@@ -1,11 +1,11 @@
 -- The worked cases of a new processor and of calls, by computation.
 use Rattle.std.proofs.Common.{refl}
-use Rattle.levels.specs.Levels.{bits_of, control_each, lowest, lowest_active, released}
+use Rattle.levels.specs.Levels.{bits_of, control_each, lowest, lowest_uninhibited, released}
 use Rattle.machine.specs.Step.{instruction_at, step}
 use Rattle.worked.specs.Calling.{Begins, Called}
 
 pub begins : Begins
-unfolding step instruction_at lowest bits_of control_each lowest_active released
+unfolding step instruction_at lowest bits_of control_each lowest_uninhibited released
 begins = record {
   registers = refl;
   protection = refl;
@@ -28,7 +28,7 @@ begins = record {
 }
 
 pub called : Called
-unfolding step instruction_at lowest bits_of control_each lowest_active released
+unfolding step instruction_at lowest bits_of control_each lowest_uninhibited released
 called = record {
   run = refl;
   run_part = refl;

@@ -5,11 +5,11 @@ use Rattle.std.specs.Option.{option_map_or, option_or}
 use Rattle.std.proofs.lemmas.Bool.{both_ways, cases_eq, cases_order}
 use Rattle.std.proofs.lemmas.Bool.Decides.{nat_tests}
 use Rattle.levels.specs.declared.level.Event.TheVariants.{Exit}
-use Rattle.levels.specs.Levels.{inhibited, level_at, lowest_active, preset, released, runs, taken, told}
+use Rattle.levels.specs.Levels.{inhibited, level_at, lowest_uninhibited, preset, released, active_uninhibited, taken, told}
 use Rattle.machine.specs.declared.instruction.Instruction.TheVariants.{Ldx}
 use Rattle.machine.specs.State.{Guard, Machine}
 use Rattle.machine.specs.Step.{act, by_entry, by_fetch, by_judgement, by_mark, due, exits, fetched, judgement, leave, step}
-use Rattle.worked.specs.Laws.{Clears, ExitsBy, Runs, active_at}
+use Rattle.worked.specs.Laws.{Clears, ExitsBy, ActiveUninhibited, active_at}
 
 -- a search through numbers that follow one another
 module _ (t : ℕ → Bool) where
@@ -54,29 +54,29 @@ external_free k l = grind (arith, nat_tests)
 
 module _ (g : Guard) where
   -- the records after an exit, by what the two searches find
-  released_by : (o p : Option ℕ) → lowest_active g.ii g.ei g.levels ≡ o → lowest_active false false g.levels ≡ p
+  released_by : (o p : Option ℕ) → lowest_uninhibited g.ii g.ei g.levels ≡ o → lowest_uninhibited false false g.levels ≡ p
       → released g.ii g.ei g.levels ≡ option_map_or (λ k. told k Exit g.levels) (option_or o p) g.levels
   unfolding released
   released_by o p e f = rw (e, f) refl
 
   finds : (ii ei : Bool) (k : ℕ) → k < 16 → active_at g k ≡ true → inhibited ii ei k ≡ false
-      → ((j : ℕ) → j < k → active_at g j ≡ true → inhibited ii ei j ≡ false → ⊥) → lowest_active ii ei g.levels ≡ Some k
-  unfolding lowest_active
-  finds ii ei k h a f n = first_found (runs ii ei g.levels) 16 0 k (omega arith) (omega arith) (does_run (active_at g k) (inhibited ii ei k) a f) (λ j l. does_not (active_at g j) (inhibited ii ei j) (n j l))
+      → ((j : ℕ) → j < k → active_at g j ≡ true → inhibited ii ei j ≡ false → ⊥) → lowest_uninhibited ii ei g.levels ≡ Some k
+  unfolding lowest_uninhibited
+  finds ii ei k h a f n = first_found (active_uninhibited ii ei g.levels) 16 0 k (omega arith) (omega arith) (does_run (active_at g k) (inhibited ii ei k) a f) (λ j l. does_not (active_at g j) (inhibited ii ei j) (n j l))
 
-  finds_none : (ii ei : Bool) → ((j : ℕ) → j < 16 → active_at g j ≡ true → inhibited ii ei j ≡ false → ⊥) → lowest_active ii ei g.levels ≡ None
-  unfolding lowest_active
-  finds_none ii ei n = none_found (runs ii ei g.levels) 16 0 (λ j l. does_not (active_at g j) (inhibited ii ei j) (n j (omega arith)))
+  finds_none : (ii ei : Bool) → ((j : ℕ) → j < 16 → active_at g j ≡ true → inhibited ii ei j ≡ false → ⊥) → lowest_uninhibited ii ei g.levels ≡ None
+  unfolding lowest_uninhibited
+  finds_none ii ei n = none_found (active_uninhibited ii ei g.levels) 16 0 (λ j l. does_not (active_at g j) (inhibited ii ei j) (n j (omega arith)))
 
   not_both : (j : ℕ) → active_at g j ≡ false → active_at g j ≡ true → ⊥
   not_both j e f = both_ways (active_at g j) e f
 
-  lowest_exits : (k : ℕ) → k < 16 → Runs g k → ((j : ℕ) → j < k → Runs g j → ⊥) → released g.ii g.ei g.levels ≡ told k Exit g.levels
+  lowest_exits : (k : ℕ) → k < 16 → ActiveUninhibited g k → ((j : ℕ) → j < k → ActiveUninhibited g j → ⊥) → released g.ii g.ei g.levels ≡ told k Exit g.levels
   lowest_exits k h r n = released_by (Some k) _ (finds g.ii g.ei k h r.active r.free (λ j l a f. n j l (record { active = a; free = f }))) refl
 
   -- under II alone, what is below the lowest active level of 8 to 15 does not run
   none_below : g.ii ≡ true → g.ei ≡ false → active_at g 0 ≡ false → active_at g 1 ≡ false → (k : ℕ) → ((i : ℕ) → 8 ≤ i → i < k → active_at g i ≡ false)
-      → (i : ℕ) → i < k → Runs g i → ⊥
+      → (i : ℕ) → i < k → ActiveUninhibited g i → ⊥
   none_below x y z o k n i l r =
       elim (cases_eq i 0) [
         | inl e ↦ not_both i (ap (active_at g) e ∙ z) r.active
@@ -94,11 +94,13 @@ module _ (g : Guard) where
 
   pub clears : Clears g (released g.ii g.ei g.levels)
   clears = record {
-    lowest = lowest_exits;
+    lowest_uninhibited = lowest_exits;
     all_inhibited = λ k h n. released_by None (Some k) (finds_none g.ii g.ei (λ j l a f. n j l (record { active = a; free = f })))
         (finds false false k h.within h.active (free k) (λ j l a f. not_both j (h.first j l) a));
     none_inhibited = λ k h n. lowest_exits k h.within (record { active = h.active; free = n k h.within h.active }) (λ j l r. not_both j (h.first j l) r.active);
     none_active = λ h. released_by None None (finds_none g.ii g.ei (λ j l a f. not_both j (h j l) a)) (finds_none false false (λ j l a f. not_both j (h j l) a));
+    zero = λ a. lowest_exits 0 (omega arith) (record { active = a; free = refl }) (λ j l r. absurd (omega arith));
+    one = λ z a. lowest_exits 1 (omega arith) (record { active = a; free = refl }) (λ j l r. not_both 0 z (let e : j ≡ 0 = omega arith in rw e at r.active));
     held_back = λ x y z o j b c a k l h e n.
         let q = lowest_exits k h (record { active = e; free = rw (x, y) (external_free k l) }) (none_below x y z o k n) in
         (q, ap (λ ls. level_at ls j) q ∙ get_or-set_other g.levels k j (taken (level_at g.levels k) Exit) (preset 0) (λ d. omega arith));

@@ -1,11 +1,11 @@
 -- The worked cases of direct functions, by computation.
 use Rattle.std.proofs.Common.{refl}
-use Rattle.levels.specs.Levels.{bits_of, control_each, lowest, lowest_active, released}
+use Rattle.levels.specs.Levels.{bits_of, control_each, lowest, lowest_uninhibited, released}
 use Rattle.machine.specs.Step.{instruction_at, step}
 use Rattle.worked.specs.Functions.{Controls, Functions}
 
 pub functions : Functions
-unfolding step instruction_at lowest bits_of control_each lowest_active released
+unfolding step instruction_at lowest bits_of control_each lowest_uninhibited released
 functions = record {
   registers = refl;
   only_a = refl;
@@ -49,7 +49,7 @@ functions = record {
 }
 
 pub controls : Controls
-unfolding step instruction_at lowest bits_of control_each lowest_active released
+unfolding step instruction_at lowest bits_of control_each lowest_uninhibited released
 controls = record {
   disarm = refl;
   arm = refl;

@@ -1,11 +1,11 @@
 -- The worked cases of addresses, instructions, branches and copies, by computation.
 use Rattle.std.proofs.Common.{refl}
-use Rattle.levels.specs.Levels.{bits_of, control_each, lowest, lowest_active, released}
+use Rattle.levels.specs.Levels.{bits_of, control_each, lowest, lowest_uninhibited, released}
 use Rattle.machine.specs.Step.{instruction_at, step}
 use Rattle.worked.specs.Instructions.{Addresses, Branches, Copies, Instructions}
 
 pub addresses : Addresses
-unfolding step instruction_at lowest bits_of control_each lowest_active released
+unfolding step instruction_at lowest bits_of control_each lowest_uninhibited released
 addresses = record {
   direct = refl;
   long = refl;
@@ -27,7 +27,7 @@ addresses = record {
 }
 
 pub instructions : Instructions
-unfolding step instruction_at lowest bits_of control_each lowest_active released
+unfolding step instruction_at lowest bits_of control_each lowest_uninhibited released
 instructions = record {
   lda = refl;
   and = refl;
@@ -61,7 +61,7 @@ instructions = record {
 }
 
 pub branches : Branches
-unfolding step instruction_at lowest bits_of control_each lowest_active released
+unfolding step instruction_at lowest bits_of control_each lowest_uninhibited released
 branches = record {
   bno = refl;
   bno_not = refl;
@@ -85,7 +85,7 @@ branches = record {
 }
 
 pub copies : Copies
-unfolding step instruction_at lowest bits_of control_each lowest_active released
+unfolding step instruction_at lowest bits_of control_each lowest_uninhibited released
 copies = record {
   and = refl;
   or = refl;

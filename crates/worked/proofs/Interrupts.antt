@@ -1,11 +1,11 @@
 -- The worked cases of levels, entries and exits, by computation.
 use Rattle.std.proofs.Common.{refl}
-use Rattle.levels.specs.Levels.{bits_of, control_each, lowest, lowest_active, released}
+use Rattle.levels.specs.Levels.{bits_of, control_each, lowest, lowest_uninhibited, released}
 use Rattle.machine.specs.Step.{instruction_at, step}
 use Rattle.worked.specs.Interrupts.{Entries, Exits, Levels}
 
 pub levels : Levels
-unfolding step instruction_at lowest bits_of control_each lowest_active released
+unfolding step instruction_at lowest bits_of control_each lowest_uninhibited released
 levels = record {
   disarm = refl;
   arm = refl;
@@ -18,6 +18,7 @@ levels = record {
   all_enter = refl;
   under_ii = refl;
   under_ei = refl;
+  under_both = refl;
   under_exit = refl;
   under_wait = refl;
   disabled = refl;
@@ -29,7 +30,7 @@ levels = record {
 }
 
 pub entries : Entries
-unfolding step instruction_at lowest bits_of control_each lowest_active released
+unfolding step instruction_at lowest bits_of control_each lowest_uninhibited released
 entries = record {
   entered = refl;
   words = refl;
@@ -48,7 +49,7 @@ entries = record {
 }
 
 pub exits : Exits
-unfolding step instruction_at lowest bits_of control_each lowest_active released
+unfolding step instruction_at lowest bits_of control_each lowest_uninhibited released
 exits = record {
   o_and_p = refl;
   c_and_p = refl;
@@ -61,18 +62,23 @@ exits = record {
   last = refl;
   words = refl;
   no_mark = refl;
+  no_mark_guard = refl;
   unprotected = refl;
   wrapped = refl;
   cleared = refl;
   each_exits = refl;
   each_inhibited_exits = refl;
-  past_inhibited = refl;
-  lowest_uninhibited = refl;
+  past_internal = refl;
+  to_external = refl;
+  lowest_external = refl;
+  past_internal_switch_off = refl;
   zero_exits = refl;
   one_exits = refl;
-  internal_exits = refl;
-  all_inhibited = refl;
-  all_internal = refl;
+  both_inhibit = refl;
+  ii_inhibits = refl;
+  ei_inhibits = refl;
+  none_inhibits = refl;
+  below_external = refl;
   sets_ii = refl;
   clears_ii = refl;
   sets_ei = refl;

@@ -1,11 +1,11 @@
 -- The worked cases of memory, by computation.
 use Rattle.std.proofs.Common.{refl}
-use Rattle.levels.specs.Levels.{bits_of, control_each, lowest, lowest_active, released}
+use Rattle.levels.specs.Levels.{bits_of, control_each, lowest, lowest_uninhibited, released}
 use Rattle.machine.specs.Step.{instruction_at, step}
 use Rattle.worked.specs.Plans.{Plans}
 
 pub plans : Plans
-unfolding step instruction_at lowest bits_of control_each lowest_active released
+unfolding step instruction_at lowest bits_of control_each lowest_uninhibited released
 plans = record {
   own = refl;
   last_block = refl;

@@ -1,11 +1,11 @@
 -- The worked cases of protection, by computation.
 use Rattle.std.proofs.Common.{refl}
-use Rattle.levels.specs.Levels.{bits_of, control_each, lowest, lowest_active, released}
+use Rattle.levels.specs.Levels.{bits_of, control_each, lowest, lowest_uninhibited, released}
 use Rattle.machine.specs.Step.{instruction_at, step}
 use Rattle.worked.specs.Violations.{Fetches, Judged, Violations}
 
 pub judged : Judged
-unfolding step instruction_at lowest bits_of control_each lowest_active released
+unfolding step instruction_at lowest bits_of control_each lowest_uninhibited released
 judged = record {
   pages = refl;
   sta = refl;
@@ -38,7 +38,7 @@ judged = record {
 }
 
 pub violations : Violations
-unfolding step instruction_at lowest bits_of control_each lowest_active released
+unfolding step instruction_at lowest bits_of control_each lowest_uninhibited released
 violations = record {
   registers = refl;
   words = refl;
@@ -63,7 +63,7 @@ violations = record {
 }
 
 pub fetches : Fetches
-unfolding step instruction_at lowest bits_of control_each lowest_active released
+unfolding step instruction_at lowest bits_of control_each lowest_uninhibited released
 fetches = record {
   to_background = refl;
   to_protected = refl;

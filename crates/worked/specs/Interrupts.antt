@@ -1,18 +1,19 @@
 -- Worked cases of levels, entries and exits.
-use Rattle.std.specs.Prelude.{◌≡◌, ℕ, Bool, true, false, List, [], ◌∷◌, ◌++◌, map, replicate, Some, None, Option, slice_set}
+use Rattle.std.specs.Prelude.{◌≡◌, ℕ, ◌+◌, ◌*◌, Bool, true, false, List, [], ◌∷◌, ◌++◌, map, replicate, Some, None, Option, slice_set}
 use Rattle.std.specs.List.{range_with_len}
 use Rattle.levels.specs.declared.level.Event.{Event}
 use Rattle.levels.specs.declared.level.Event.TheVariants.{Disarm, Arm, Trigger, Enter, Exit as Leave, Violate}
 use Rattle.levels.specs.declared.level.Level.{Level}
 use Rattle.levels.specs.declared.level.LevelState.{LevelState}
 use Rattle.levels.specs.declared.level.LevelState.TheVariants.{Disarmed, Armed, Waiting, Active}
+use Rattle.levels.specs.Bits.{one}
 use Rattle.levels.specs.Levels.{next_state, preset}
 use Rattle.machine.specs.declared.call.Outcome.TheVariants.{Entered, Done}
 use Rattle.machine.specs.declared.state.Mark.{Mark}
 use Rattle.machine.specs.declared.state.Mark.TheVariants.{Unset, Wait, Exit}
 use Rattle.machine.specs.State.{Guard, Machine, with_level}
 use Rattle.machine.specs.Step.{due, step}
-use Rattle.worked.specs.Settings.{guarded, level, machine, only, registers_of, resting, shown, stepped, words_with}
+use Rattle.worked.specs.Settings.{guarded, level, machine, only, registers_of, resting, shown, stepped, words_with, zeros}
 
 -- what an event makes of a level that is disarmed, armed, waiting, active
 abbrev pub row : Event → List LevelState
@@ -51,6 +52,8 @@ pub record Levels : Type 0 where
   pub under_ii : map (alone true false) (range_with_len 0 16) ≡ Some 0 ∷ Some 1 ∷ (replicate 6 None ++ map Some (range_with_len 8 8))
   -- EI inhibits levels 8 to 15
   pub under_ei : map (alone false true) (range_with_len 0 16) ≡ map Some (range_with_len 0 8) ++ replicate 8 None
+  -- and both levels 2 to 15
+  pub under_both : map (alone true true) (range_with_len 0 16) ≡ Some 0 ∷ Some 1 ∷ replicate 14 None
   -- no level enters under the exit mark
   pub under_exit : due Exit (guarded false false (only 3 (level Waiting true))) ≡ None
   -- and each does under the wait mark
@@ -118,26 +121,31 @@ guard_after x = (stepped (leaving true Exit x 0x0123)).cpu.guard
 abbrev pub left : List Level
 left = slice_set (two 3 (level Armed true) 9 (level Active true)) 5 (level Waiting true)
 
--- the guard after an exit by the first status word x and the second 0, from the II, EI and levels given
-abbrev pub exit_of : Bool → Bool → ℕ → List Level → Guard
-exit_of ii ei x ls = (stepped (machine false true Exit (registers_of 4 7 false false) (guarded ii ei ls) (words_with ((0x0300, 0xc020) ∷ (0x0020, x) ∷ [])))).cpu.guard
+-- the guard after an exit in the protected page 2 by the first status word x, from the switch, II, EI and levels given
+abbrev pub exit_of : Bool → Bool → Bool → ℕ → List Level → Guard
+exit_of switch ii ei x ls = (stepped (machine switch true Exit (zeros 0x0200) (guarded ii ei ls) (words_with ((0x0200, 0xc020) ∷ (0x0020, x) ∷ [])))).cpu.guard
 
--- levels of which j and k are active, but that j, or k, is armed
+-- the levels after such an exit, with the switch on, that loads the II and EI that there are
+abbrev pub exits_from : Bool → Bool → List Level → List Level
+exits_from ii ei ls = (exit_of true ii ei (one ii * 8 + one ei * 4) ls).levels
+
+-- levels j and k are active
 abbrev pub both : ℕ → ℕ → List Level
 both j k = two j (level Active true) k (level Active true)
 
-abbrev pub lower_left : ℕ → ℕ → List Level
-lower_left j k = two j (level Armed true) k (level Active true)
+-- the same after the exit of level j, or of level k
+abbrev pub first_cleared : ℕ → ℕ → List Level
+first_cleared j k = two j (level Armed true) k (level Active true)
 
-abbrev pub upper_left : ℕ → ℕ → List Level
-upper_left j k = two j (level Active true) k (level Armed true)
+abbrev pub second_cleared : ℕ → ℕ → List Level
+second_cleared j k = two j (level Active true) k (level Armed true)
 
 -- what an exit loads and leaves
 pub record Exits : Type 0 where
   -- P, O and C are loaded, and X1 is not
   pub o_and_p : shown (leaving true Exit 0x0002 0x0123) ≡ 0x0123 ∷ 2 ∷ 3 ∷ 4 ∷ 5 ∷ 6 ∷ 7 ∷ 1 ∷ 0 ∷ []
   pub c_and_p : shown (leaving true Exit 0x0001 0x0123) ≡ 0x0123 ∷ 2 ∷ 3 ∷ 4 ∷ 5 ∷ 6 ∷ 7 ∷ 0 ∷ 1 ∷ []
-  -- II and EI are loaded, the lowest active level, which neither inhibits, becomes armed, and the others stay
+  -- II and EI are loaded; with both 0 before, the lowest active level becomes armed, and the others stay
   pub inhibit_ii : guard_after 0x0008 ≡ guarded true false left
   pub inhibit_ei : guard_after 0x0004 ≡ guarded false true left
   -- PP is loaded with the switch on
@@ -152,6 +160,7 @@ pub record Exits : Type 0 where
   pub words : (stepped (leaving true Exit 0 0x0123)).words ≡ (leaving true Exit 0 0x0123).words
   -- without the exit mark LDX loads X1 alone
   pub no_mark : shown (leaving true Unset 0x0002 0x0123) ≡ 0x0201 ∷ 2 ∷ 3 ∷ 0x0002 ∷ 5 ∷ 6 ∷ 7 ∷ 0 ∷ 0 ∷ []
+  pub no_mark_guard : (stepped (leaving true Unset 0x000e 0x0123)).cpu.guard ≡ (leaving true Unset 0x000e 0x0123).cpu.guard
   -- and so it does in an unprotected page with the switch on, also where PP was 1 before the fetch
   pub unprotected : shown (machine true true Exit (registers_of 4 7 false false) (guarded false false (only 3 (level Active true))) (words_with ((0x0300, 0xc020) ∷ (0x0020, 0x0002) ∷ [])))
       ≡ 0x0301 ∷ 2 ∷ 3 ∷ 2 ∷ 5 ∷ 0x8006 ∷ 7 ∷ 0 ∷ 0 ∷ []
@@ -161,23 +170,28 @@ pub record Exits : Type 0 where
   -- any instruction clears the exit mark
   pub cleared : (stepped (machine false true Exit (registers_of 4 7 false false) (guarded false false resting) (words_with ((0x0300, 0x8010) ∷ [])))).cpu.mark ≡ Unset
   -- the only active level exits, and it does so also where II and EI inhibit it
-  pub each_exits : map (λ (k : ℕ). (exit_of false false 0 (only k (level Active true))).levels) (range_with_len 0 16) ≡ map (λ (k : ℕ). only k (level Armed true)) (range_with_len 0 16)
-  pub each_inhibited_exits : map (λ (k : ℕ). (exit_of true true 0 (only k (level Active true))).levels) (range_with_len 0 16) ≡ map (λ (k : ℕ). only k (level Armed true)) (range_with_len 0 16)
-  -- a level that II inhibits stays active, and the lowest of those that EI does not inhibit exits
-  pub past_inhibited : map (λ (k : ℕ). (exit_of true false 0x0008 (both k 9)).levels) (range_with_len 2 6) ≡ map (λ (k : ℕ). upper_left k 9) (range_with_len 2 6)
-  pub lowest_uninhibited : (exit_of true false 0x0008 (slice_set (both 9 12) 3 (level Active true))).levels ≡ slice_set (lower_left 9 12) 3 (level Active true)
+  pub each_exits : map (λ (k : ℕ). exits_from false false (only k (level Active true))) (range_with_len 0 16) ≡ map (λ (k : ℕ). only k (level Armed true)) (range_with_len 0 16)
+  pub each_inhibited_exits : map (λ (k : ℕ). exits_from true true (only k (level Active true))) (range_with_len 0 16) ≡ map (λ (k : ℕ). only k (level Armed true)) (range_with_len 0 16)
+  -- under II an active level of 2 to 7 stays so, and one of 8 to 15 exits, the lowest of them
+  pub past_internal : map (λ (k : ℕ). exits_from true false (both k 8)) (range_with_len 2 6) ≡ map (λ (k : ℕ). second_cleared k 8) (range_with_len 2 6)
+  pub to_external : map (λ (k : ℕ). exits_from true false (both 7 k)) (range_with_len 8 8) ≡ map (λ (k : ℕ). second_cleared 7 k) (range_with_len 8 8)
+  pub lowest_external : exits_from true false (slice_set (both 9 12) 3 (level Active true)) ≡ slice_set (first_cleared 9 12) 3 (level Active true)
+  -- so it is with the switch off
+  pub past_internal_switch_off : (exit_of false true false 0x0008 (both 3 9)).levels ≡ second_cleared 3 9
   -- levels 0 and 1 are not inhibited
-  pub zero_exits : (exit_of true false 0x0008 (both 0 9)).levels ≡ lower_left 0 9
-  pub one_exits : (exit_of true true 0x000c (both 1 9)).levels ≡ lower_left 1 9
-  -- EI alone inhibits no level of 2 to 7
-  pub internal_exits : (exit_of false true 0x0004 (both 7 8)).levels ≡ lower_left 7 8
-  -- where both inhibit all that are active, the lowest of them exits
-  pub all_inhibited : (exit_of true true 0x000c (both 3 9)).levels ≡ lower_left 3 9
-  pub all_internal : (exit_of true false 0x0008 (both 3 5)).levels ≡ lower_left 3 5
+  pub zero_exits : exits_from true false (both 0 9) ≡ first_cleared 0 9
+  pub one_exits : exits_from true false (both 1 9) ≡ first_cleared 1 9
+  -- where every active level is inhibited, and where none is, the lowest exits
+  pub both_inhibit : exits_from true true (both 3 9) ≡ first_cleared 3 9
+  pub ii_inhibits : exits_from true false (both 3 5) ≡ first_cleared 3 5
+  pub ei_inhibits : exits_from false true (both 9 12) ≡ first_cleared 9 12
+  pub none_inhibits : exits_from false false (both 3 9) ≡ first_cleared 3 9
+  -- and where EI inhibits the upper one alone
+  pub below_external : exits_from false true (both 7 8) ≡ first_cleared 7 8
   -- a first status word that sets or clears II or EI does so after the level was chosen
-  pub sets_ii : exit_of false false 0x0008 (both 3 9) ≡ guarded true false (lower_left 3 9)
-  pub clears_ii : exit_of true false 0 (both 3 9) ≡ guarded false false (upper_left 3 9)
-  pub sets_ei : exit_of true false 0x000c (both 3 9) ≡ guarded true true (upper_left 3 9)
-  pub clears_ei : exit_of true true 0x0008 (both 3 9) ≡ guarded true false (lower_left 3 9)
+  pub sets_ii : exit_of true false false 0x0008 (both 3 9) ≡ guarded true false (first_cleared 3 9)
+  pub clears_ii : exit_of true true false 0 (both 3 9) ≡ guarded false false (second_cleared 3 9)
+  pub sets_ei : exit_of true true false 0x000c (both 3 9) ≡ guarded true true (second_cleared 3 9)
+  pub clears_ei : exit_of true true true 0x0008 (both 3 9) ≡ guarded true false (first_cleared 3 9)
   -- where none is active all stay
-  pub none_exits : (exit_of false false 0 (two 3 (level Waiting true) 9 (level Disarmed false))).levels ≡ two 3 (level Waiting true) 9 (level Disarmed false)
+  pub none_exits : exits_from false false (two 3 (level Waiting true) 9 (level Disarmed false)) ≡ two 3 (level Waiting true) 9 (level Disarmed false)

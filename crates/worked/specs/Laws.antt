@@ -28,11 +28,11 @@ abbrev pub active_at : Guard → ℕ → Bool
 active_at g k = is_active (level_at g.levels k).state
 
 -- level k is active and not inhibited
-pub record Runs (g : Guard) (k : ℕ) : Type 0 where
+pub record ActiveUninhibited (g : Guard) (k : ℕ) : Type 0 where
   pub active : active_at g k ≡ true
   pub free : inhibited g.ii g.ei k ≡ false
 
--- level k is the lowest-numbered active one of levels 0 to 15
+-- level k is the lowest-numbered active one of levels 0 to 15, inhibited or not
 pub record LowestActive (g : Guard) (k : ℕ) : Type 0 where
   pub within : k < 16
   pub active : active_at g k ≡ true
@@ -41,13 +41,16 @@ pub record LowestActive (g : Guard) (k : ℕ) : Type 0 where
 -- ls is what an exit makes of the level records, where g has these, II and EI as they are when the LDX begins
 pub record Clears (g : Guard) (ls : List Level) : Type 0 where
   -- the lowest-numbered active level that is not inhibited exits, and the others keep their records
-  pub lowest : (k : ℕ) → k < 16 → Runs g k → ((j : ℕ) → j < k → Runs g j → ⊥) → ls ≡ told k Exit g.levels
+  pub lowest_uninhibited : (k : ℕ) → k < 16 → ActiveUninhibited g k → ((j : ℕ) → j < k → ActiveUninhibited g j → ⊥) → ls ≡ told k Exit g.levels
   -- where every active level is inhibited, the lowest of them
-  pub all_inhibited : (k : ℕ) → LowestActive g k → ((j : ℕ) → j < 16 → Runs g j → ⊥) → ls ≡ told k Exit g.levels
+  pub all_inhibited : (k : ℕ) → LowestActive g k → ((j : ℕ) → j < 16 → ActiveUninhibited g j → ⊥) → ls ≡ told k Exit g.levels
   -- where no active level is inhibited, the lowest of them
   pub none_inhibited : (k : ℕ) → LowestActive g k → ((j : ℕ) → j < 16 → active_at g j ≡ true → inhibited g.ii g.ei j ≡ false) → ls ≡ told k Exit g.levels
   -- where none is active, all stay
   pub none_active : ((j : ℕ) → j < 16 → active_at g j ≡ false) → ls ≡ g.levels
+  -- level 0 exits before any other, and level 1 before all but that, whatever II and EI are
+  pub zero : active_at g 0 ≡ true → ls ≡ told 0 Exit g.levels
+  pub one : active_at g 0 ≡ false → active_at g 1 ≡ true → ls ≡ told 1 Exit g.levels
   -- while II is 1, EI 0, and levels 0 and 1 are not active, the lowest active level of 8 to 15 exits, and an active one of 2 to 7 stays so
   pub held_back : g.ii ≡ true → g.ei ≡ false → active_at g 0 ≡ false → active_at g 1 ≡ false → (j : ℕ) → 2 ≤ j → j < 8 → active_at g j ≡ true
       → (k : ℕ) → 8 ≤ k → k < 16 → active_at g k ≡ true → ((i : ℕ) → 8 ≤ i → i < k → active_at g i ≡ false)
@@ -78,10 +81,10 @@ pub record Laws : Type 0 where
       → level_at (write_function (WriteLevels c) s).guard.levels k ≡ cond (bit s.work.a k) (controlled c (level_at s.guard.levels k)) (level_at s.guard.levels k)
   -- and it leaves level 0
   pub leaves_zero : (c : LevelControl) (s : Cpu) → level_at (write_function (WriteLevels c) s).guard.levels 0 ≡ level_at s.guard.levels 0
-  -- an exit clears a level by II and EI as they are before the step, and the status words, whatever they are, choose none
+  -- an exit clears a level by II and EI as they are before the step
   pub exits : (ea : ℕ) (m : Machine) → ExitsBy ea m → Clears m.cpu.guard (step m).after.cpu.guard.levels
-  pub leaves : (x p : ℕ) (s : Cpu) → Clears s.guard (leave_cpu x p s).guard.levels
-  pub chosen_before : (x y p q : ℕ) (s : Cpu) → (leave_cpu x p s).guard.levels ≡ (leave_cpu y q s).guard.levels
+  -- and it clears the same one whatever status words it loads
+  pub exits_by_any_words : (x p : ℕ) (s : Cpu) → Clears s.guard (leave_cpu x p s).guard.levels
   -- II and EI after it are those of the first status word
   pub exits_load : (ea : ℕ) (m : Machine) → ExitsBy ea m
       → ((step m).after.cpu.guard.ii ≡ bit (read m.words ea) 12) × ((step m).after.cpu.guard.ei ≡ bit (read m.words ea) 13)

@@ -1,8 +1,0 @@
-use Rattle.std.proofs.Common.{◌≡◌, ◌-◌}
-use Rattle.std.specs.List.{find, range_with_len}
-use Rattle.levels.specs.Banks.{records}
-use Rattle.levels.specs.Levels.{lowest_active, runs}
-use Rattle.levels.proofs.bank.Bank.lowest_active.Given as goal
-
-abbrev pub invariant-loop-place : goal.invariant-loop-place
-invariant-loop-place l = lowest_active l.inhibits.ii l.inhibits.ei (records l.self) ≡ find (runs l.inhibits.ii l.inhibits.ei (records l.self)) (range_with_len l.place (16 - l.place))

@@ -185,7 +185,7 @@ pub record Exits : Type 0 where
   pub both_inhibit : exits_from true true (both 3 9) ≡ first_cleared 3 9
   pub ii_inhibits : exits_from true false (both 3 5) ≡ first_cleared 3 5
   pub ei_inhibits : exits_from false true (both 9 12) ≡ first_cleared 9 12
-  pub none_inhibits : exits_from false false (both 3 9) ≡ first_cleared 3 9
+  pub none_inhibits : map (λ (k : ℕ). exits_from false false (both 3 k)) (range_with_len 4 12) ≡ map (λ (k : ℕ). first_cleared 3 k) (range_with_len 4 12)
   -- and where EI inhibits the upper one alone
   pub below_external : exits_from false true (both 7 8) ≡ first_cleared 7 8
   -- a first status word that sets or clears II or EI does so after the level was chosen

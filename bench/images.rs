@@ -107,6 +107,7 @@ const BASED: u16 = 1;
 const WAIT: u16 = 0x0030;
 const EXIT: u16 = 0x0031;
 const STATUS: u16 = 0x0020;
+const ACTIVE: u16 = 0x1002;
 const TRIGGER: u16 = 0x1004;
 
 fn instruction(code: u16, form: u16, displacement: u16) -> u16 {
@@ -513,7 +514,7 @@ fn levels_family(random: &mut Random) -> Vec<u8> {
 
 /// Shows in A which levels are active.
 fn show_active(program: &mut Program) {
-    program.reach(RD, 0x1002);
+    program.reach(RD, ACTIVE);
 }
 
 /// Sets II and EI, mostly one of them alone.
@@ -537,6 +538,9 @@ fn trigger_some(random: &mut Random, program: &mut Program) {
 fn exits_handler(random: &mut Random, program: &mut Program, level: u16) {
     let frame = frame_of(level);
     program.begin_handler(level, frame);
+    if level == 0 {
+        program.reach(IM, frame.wrapping_add(1));
+    }
     if random.chance(60) {
         set_inhibits(random, program);
     }

@@ -533,11 +533,11 @@ impl Machine {
 
     /// Loads the two status words in place of X1, and ends a level by the inhibits as they were before that.
     fn exit(&mut self, address: u16) {
-        let ending = self.level_that_exits(self.indicators);
+        let exiting = self.level_that_exits(self.indicators);
         let loaded = Indicators::from_status_word(self.word(address));
         self.registers[P] = self.word(address.wrapping_add(1));
         self.indicators = Indicators { protect: loaded.protect || !self.protect_switch, ..loaded };
-        if let Some(level) = ending {
+        if let Some(level) = exiting {
             self.levels[level].happen(LevelEvent::Exit);
         }
     }
@@ -1218,8 +1218,8 @@ impl Coverage {
         let sets = new.inhibit_internal && !old.inhibit_internal || new.inhibit_external && !old.inhibit_external;
         let clears = old.inhibit_internal && !new.inhibit_internal || old.inhibit_external && !new.inhibit_external;
         let is_another = view.exiting != view.exiting_by_loaded;
-        self.meet_rule(is_another && sets, "an exit that sets an inhibit by which another level would exit");
-        self.meet_rule(is_another && clears, "an exit that clears an inhibit without which another level would exit");
+        self.meet_rule(is_another && sets && !clears, "an exit that sets an inhibit by which another level would exit");
+        self.meet_rule(is_another && clears && !sets, "an exit that clears an inhibit without which another level would exit");
     }
 
     fn meet_direct(&mut self, view: &View, what: &str) {

@@ -136,12 +136,12 @@ lowest (suc n) k ii ei ls = choose (sighted (inhibited ii ei k) (level_at ls k))
 abbrev pub active_uninhibited : Bool → Bool → List Level → ℕ → Bool
 active_uninhibited ii ei ls k = is_active (level_at ls k).state && not (inhibited ii ei k)
 
--- the lowest level that is active and not inhibited
+-- the lowest level of 0 to 15 that is active and not inhibited
 unfoldable pub lowest_uninhibited : Bool → Bool → List Level → Option ℕ
 lowest_uninhibited ii ei ls = find (active_uninhibited ii ei ls) (range_with_len 0 16)
 
--- the level that an exit clears: the lowest active one that is not inhibited; where all active ones are, the lowest of them, which is
--- the one that is found with II and EI 0
+-- the level that an exit clears: the lowest active one that is not inhibited; where all active ones are inhibited, the lowest of them,
+-- which is the one that is found with II and EI 0
 abbrev pub cleared : Bool → Bool → List Level → Option ℕ
 cleared ii ei ls = option_or (lowest_uninhibited ii ei ls) (lowest_uninhibited false false ls)
 

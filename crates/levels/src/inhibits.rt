@@ -2,7 +2,7 @@
 ghost use Rattle.std.specs.Prelude.{◌≡◌};
 ghost use Rattle.levels.specs.Levels.{inhibited};
 
-/// II and EI: a level that one of them inhibits neither enters nor blocks.
+/// II and EI: a level that one of them inhibits neither enters nor blocks, and exits only where no other active one is uninhibited.
 #[derive(Clone, Copy, PartialEq, Eq, Debug, Default)]
 pub struct Inhibits {
     pub ii: bool,

@@ -75,8 +75,8 @@ impl Levels {
         self.bank.lowest(inhibits)
     }
 
-    /// Hands the exit event to the lowest active level that is not inhibited, or to the lowest active one where all are inhibited;
-    /// where none is active, all stay.
+    /// Hands the exit event to the lowest active level that is not inhibited, or, where all active ones are inhibited, to the lowest
+    /// of them; where none is active, all stay.
     pub fn release(&mut self, inhibits: Inhibits)
         ensures { records self.new ≡ released inhibits.ii inhibits.ei (records self.old) }
     {

@@ -48,7 +48,7 @@ impl Bank {
         None
     }
 
-    /// Hands the exit event to the lowest active level that is not inhibited, or to the lowest active one where all are inhibited.
+    /// Hands the exit event to the lowest active level that is not inhibited, or else to the lowest active one.
     #[tactic(auto, unfolding(crate::specs::Levels::released))]
     pub(crate) fn release(&mut self, inhibits: Inhibits)
         ensures { records self.new ≡ released inhibits.ii inhibits.ei (records self.old) }

@@ -34,13 +34,13 @@ module _ (t : ℕ → Bool) where
       ]
 
 -- whether a level is active and not inhibited, by the two facts
-does_run : (a b : Bool) → a ≡ true → b ≡ false → (a && not b) ≡ true
-does_run a b e f = rw (e, f) refl
+both_hold : (a b : Bool) → a ≡ true → b ≡ false → (a && not b) ≡ true
+both_hold a b e f = rw (e, f) refl
 
-does_not : (a b : Bool) → (a ≡ true → b ≡ false → ⊥) → (a && not b) ≡ false
-does_not false b h = refl
-does_not true true h = refl
-does_not true false h = absurd (h refl refl)
+not_both_hold : (a b : Bool) → (a ≡ true → b ≡ false → ⊥) → (a && not b) ≡ false
+not_both_hold false b h = refl
+not_both_hold true true h = refl
+not_both_hold true false h = absurd (h refl refl)
 
 -- with neither II nor EI no level is inhibited, and by II alone levels 2 to 7 are
 free : (k : ℕ) → inhibited false false k ≡ false
@@ -62,11 +62,11 @@ module _ (g : Guard) where
   finds : (ii ei : Bool) (k : ℕ) → k < 16 → active_at g k ≡ true → inhibited ii ei k ≡ false
       → ((j : ℕ) → j < k → active_at g j ≡ true → inhibited ii ei j ≡ false → ⊥) → lowest_uninhibited ii ei g.levels ≡ Some k
   unfolding lowest_uninhibited
-  finds ii ei k h a f n = first_found (active_uninhibited ii ei g.levels) 16 0 k (omega arith) (omega arith) (does_run (active_at g k) (inhibited ii ei k) a f) (λ j l. does_not (active_at g j) (inhibited ii ei j) (n j l))
+  finds ii ei k h a f n = first_found (active_uninhibited ii ei g.levels) 16 0 k (omega arith) (omega arith) (both_hold (active_at g k) (inhibited ii ei k) a f) (λ j l. not_both_hold (active_at g j) (inhibited ii ei j) (n j l))
 
   finds_none : (ii ei : Bool) → ((j : ℕ) → j < 16 → active_at g j ≡ true → inhibited ii ei j ≡ false → ⊥) → lowest_uninhibited ii ei g.levels ≡ None
   unfolding lowest_uninhibited
-  finds_none ii ei n = none_found (active_uninhibited ii ei g.levels) 16 0 (λ j l. does_not (active_at g j) (inhibited ii ei j) (n j (omega arith)))
+  finds_none ii ei n = none_found (active_uninhibited ii ei g.levels) 16 0 (λ j l. not_both_hold (active_at g j) (inhibited ii ei j) (n j (omega arith)))
 
   not_both : (j : ℕ) → active_at g j ≡ false → active_at g j ≡ true → ⊥
   not_both j e f = both_ways (active_at g j) e f
@@ -74,7 +74,7 @@ module _ (g : Guard) where
   lowest_exits : (k : ℕ) → k < 16 → ActiveUninhibited g k → ((j : ℕ) → j < k → ActiveUninhibited g j → ⊥) → released g.ii g.ei g.levels ≡ told k Exit g.levels
   lowest_exits k h r n = released_by (Some k) _ (finds g.ii g.ei k h r.active r.free (λ j l a f. n j l (record { active = a; free = f }))) refl
 
-  -- under II alone, what is below the lowest active level of 8 to 15 does not run
+  -- under II alone, what is below the lowest active level of 8 to 15 is inhibited or not active
   none_below : g.ii ≡ true → g.ei ≡ false → active_at g 0 ≡ false → active_at g 1 ≡ false → (k : ℕ) → ((i : ℕ) → 8 ≤ i → i < k → active_at g i ≡ false)
       → (i : ℕ) → i < k → ActiveUninhibited g i → ⊥
   none_below x y z o k n i l r =

@@ -52,7 +52,7 @@ pub record Levels : Type 0 where
   pub under_ii : map (alone true false) (range_with_len 0 16) ≡ Some 0 ∷ Some 1 ∷ (replicate 6 None ++ map Some (range_with_len 8 8))
   -- EI inhibits levels 8 to 15
   pub under_ei : map (alone false true) (range_with_len 0 16) ≡ map Some (range_with_len 0 8) ++ replicate 8 None
-  -- and both levels 2 to 15
+  -- and II and EI together inhibit levels 2 to 15
   pub under_both : map (alone true true) (range_with_len 0 16) ≡ Some 0 ∷ Some 1 ∷ replicate 14 None
   -- no level enters under the exit mark
   pub under_exit : due Exit (guarded false false (only 3 (level Waiting true))) ≡ None
@@ -122,21 +122,22 @@ abbrev pub left : List Level
 left = slice_set (two 3 (level Armed true) 9 (level Active true)) 5 (level Waiting true)
 
 -- the guard after an exit in the protected page 2 by the first status word x, from the switch, II, EI and levels given
-abbrev pub exit_of : Bool → Bool → Bool → ℕ → List Level → Guard
-exit_of switch ii ei x ls = (stepped (machine switch true Exit (zeros 0x0200) (guarded ii ei ls) (words_with ((0x0200, 0xc020) ∷ (0x0020, x) ∷ [])))).cpu.guard
+abbrev pub guard_after_exit : Bool → Bool → Bool → ℕ → List Level → Guard
+guard_after_exit switch ii ei x ls = (stepped (machine switch true Exit (zeros 0x0200) (guarded ii ei ls) (words_with ((0x0200, 0xc020) ∷ (0x0020, x) ∷ [])))).cpu.guard
 
--- the levels after such an exit, with the switch on, that loads the II and EI that there are
-abbrev pub exits_from : Bool → Bool → List Level → List Level
-exits_from ii ei ls = (exit_of true ii ei (one ii * 8 + one ei * 4) ls).levels
+-- the levels after such an exit, with the switch on, that loads II and EI as they are
+abbrev pub levels_after_exit : Bool → Bool → List Level → List Level
+levels_after_exit ii ei ls = (guard_after_exit true ii ei (one ii * 8 + one ei * 4) ls).levels
 
 -- levels j and k are active
 abbrev pub both : ℕ → ℕ → List Level
 both j k = two j (level Active true) k (level Active true)
 
--- the same after the exit of level j, or of level k
+-- the same after the exit of level j
 abbrev pub first_cleared : ℕ → ℕ → List Level
 first_cleared j k = two j (level Armed true) k (level Active true)
 
+-- and after that of level k
 abbrev pub second_cleared : ℕ → ℕ → List Level
 second_cleared j k = two j (level Active true) k (level Armed true)
 
@@ -169,29 +170,29 @@ pub record Exits : Type 0 where
       ≡ 0x0123 ∷ 2 ∷ 3 ∷ 0xffff ∷ 5 ∷ 0x8006 ∷ 7 ∷ 0 ∷ 0 ∷ []
   -- any instruction clears the exit mark
   pub cleared : (stepped (machine false true Exit (registers_of 4 7 false false) (guarded false false resting) (words_with ((0x0300, 0x8010) ∷ [])))).cpu.mark ≡ Unset
-  -- the only active level exits, and it does so also where II and EI inhibit it
-  pub each_exits : map (λ (k : ℕ). exits_from false false (only k (level Active true))) (range_with_len 0 16) ≡ map (λ (k : ℕ). only k (level Armed true)) (range_with_len 0 16)
-  pub each_inhibited_exits : map (λ (k : ℕ). exits_from true true (only k (level Active true))) (range_with_len 0 16) ≡ map (λ (k : ℕ). only k (level Armed true)) (range_with_len 0 16)
+  -- the only active level exits, also where II or EI inhibits it
+  pub each_exits : map (λ (k : ℕ). levels_after_exit false false (only k (level Active true))) (range_with_len 0 16) ≡ map (λ (k : ℕ). only k (level Armed true)) (range_with_len 0 16)
+  pub each_inhibited_exits : map (λ (k : ℕ). levels_after_exit true true (only k (level Active true))) (range_with_len 0 16) ≡ map (λ (k : ℕ). only k (level Armed true)) (range_with_len 0 16)
   -- under II an active level of 2 to 7 stays so, and one of 8 to 15 exits, the lowest of them
-  pub past_internal : map (λ (k : ℕ). exits_from true false (both k 8)) (range_with_len 2 6) ≡ map (λ (k : ℕ). second_cleared k 8) (range_with_len 2 6)
-  pub to_external : map (λ (k : ℕ). exits_from true false (both 7 k)) (range_with_len 8 8) ≡ map (λ (k : ℕ). second_cleared 7 k) (range_with_len 8 8)
-  pub lowest_external : exits_from true false (slice_set (both 9 12) 3 (level Active true)) ≡ slice_set (first_cleared 9 12) 3 (level Active true)
+  pub past_internal : map (λ (k : ℕ). levels_after_exit true false (both k 8)) (range_with_len 2 6) ≡ map (λ (k : ℕ). second_cleared k 8) (range_with_len 2 6)
+  pub to_external : map (λ (k : ℕ). levels_after_exit true false (both 7 k)) (range_with_len 8 8) ≡ map (λ (k : ℕ). second_cleared 7 k) (range_with_len 8 8)
+  pub lowest_external : levels_after_exit true false (slice_set (both 9 12) 3 (level Active true)) ≡ slice_set (first_cleared 9 12) 3 (level Active true)
   -- so it is with the switch off
-  pub past_internal_switch_off : (exit_of false true false 0x0008 (both 3 9)).levels ≡ second_cleared 3 9
+  pub past_internal_switch_off : (guard_after_exit false true false 0x0008 (both 3 9)).levels ≡ second_cleared 3 9
   -- levels 0 and 1 are not inhibited
-  pub zero_exits : exits_from true false (both 0 9) ≡ first_cleared 0 9
-  pub one_exits : exits_from true false (both 1 9) ≡ first_cleared 1 9
+  pub zero_exits : levels_after_exit true false (both 0 9) ≡ first_cleared 0 9
+  pub one_exits : levels_after_exit true false (both 1 9) ≡ first_cleared 1 9
   -- where every active level is inhibited, and where none is, the lowest exits
-  pub both_inhibit : exits_from true true (both 3 9) ≡ first_cleared 3 9
-  pub ii_inhibits : exits_from true false (both 3 5) ≡ first_cleared 3 5
-  pub ei_inhibits : exits_from false true (both 9 12) ≡ first_cleared 9 12
-  pub none_inhibits : map (λ (k : ℕ). exits_from false false (both 3 k)) (range_with_len 4 12) ≡ map (λ (k : ℕ). first_cleared 3 k) (range_with_len 4 12)
+  pub both_inhibit : levels_after_exit true true (both 3 9) ≡ first_cleared 3 9
+  pub ii_inhibits : levels_after_exit true false (both 3 5) ≡ first_cleared 3 5
+  pub ei_inhibits : levels_after_exit false true (both 9 12) ≡ first_cleared 9 12
+  pub none_inhibits : map (λ (k : ℕ). levels_after_exit false false (both 3 k)) (range_with_len 4 12) ≡ map (λ (k : ℕ). first_cleared 3 k) (range_with_len 4 12)
   -- and where EI inhibits the upper one alone
-  pub below_external : exits_from false true (both 7 8) ≡ first_cleared 7 8
+  pub below_external : levels_after_exit false true (both 7 8) ≡ first_cleared 7 8
   -- a first status word that sets or clears II or EI does so after the level was chosen
-  pub sets_ii : exit_of true false false 0x0008 (both 3 9) ≡ guarded true false (first_cleared 3 9)
-  pub clears_ii : exit_of true true false 0 (both 3 9) ≡ guarded false false (second_cleared 3 9)
-  pub sets_ei : exit_of true true false 0x000c (both 3 9) ≡ guarded true true (second_cleared 3 9)
-  pub clears_ei : exit_of true true true 0x0008 (both 3 9) ≡ guarded true false (first_cleared 3 9)
+  pub sets_ii : guard_after_exit true false false 0x0008 (both 3 9) ≡ guarded true false (first_cleared 3 9)
+  pub clears_ii : guard_after_exit true true false 0 (both 3 9) ≡ guarded false false (second_cleared 3 9)
+  pub sets_ei : guard_after_exit true true false 0x000c (both 3 9) ≡ guarded true true (second_cleared 3 9)
+  pub clears_ei : guard_after_exit true true true 0x0008 (both 3 9) ≡ guarded true false (first_cleared 3 9)
   -- where none is active all stay
-  pub none_exits : exits_from false false (two 3 (level Waiting true) 9 (level Disarmed false)) ≡ two 3 (level Waiting true) 9 (level Disarmed false)
+  pub none_exits : levels_after_exit false false (two 3 (level Waiting true) 9 (level Disarmed false)) ≡ two 3 (level Waiting true) 9 (level Disarmed false)

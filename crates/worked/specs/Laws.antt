@@ -38,7 +38,7 @@ pub record LowestActive (g : Guard) (k : ℕ) : Type 0 where
   pub active : active_at g k ≡ true
   pub first : (j : ℕ) → j < k → active_at g j ≡ false
 
--- ls is what an exit makes of the level records, where g has these, II and EI as they are when the LDX begins
+-- g holds the level records, II and EI as they are when the LDX of an exit begins, and ls is what the exit makes of those records
 pub record Clears (g : Guard) (ls : List Level) : Type 0 where
   -- the lowest-numbered active level that is not inhibited exits, and the others keep their records
   pub lowest_uninhibited : (k : ℕ) → k < 16 → ActiveUninhibited g k → ((j : ℕ) → j < k → ActiveUninhibited g j → ⊥) → ls ≡ told k Exit g.levels
@@ -48,10 +48,10 @@ pub record Clears (g : Guard) (ls : List Level) : Type 0 where
   pub none_inhibited : (k : ℕ) → LowestActive g k → ((j : ℕ) → j < 16 → active_at g j ≡ true → inhibited g.ii g.ei j ≡ false) → ls ≡ told k Exit g.levels
   -- where none is active, all stay
   pub none_active : ((j : ℕ) → j < 16 → active_at g j ≡ false) → ls ≡ g.levels
-  -- level 0 exits before any other, and level 1 before all but that, whatever II and EI are
+  -- level 0 exits before any other, and level 1 before all but level 0, whatever II and EI are
   pub zero : active_at g 0 ≡ true → ls ≡ told 0 Exit g.levels
   pub one : active_at g 0 ≡ false → active_at g 1 ≡ true → ls ≡ told 1 Exit g.levels
-  -- while II is 1, EI 0, and levels 0 and 1 are not active, the lowest active level of 8 to 15 exits, and an active one of 2 to 7 stays so
+  -- with II 1 and EI 0, levels 0 and 1 not active, and levels of 2 to 7 and of 8 to 15 active, the lowest of 8 to 15 exits, and one of 2 to 7 stays
   pub held_back : g.ii ≡ true → g.ei ≡ false → active_at g 0 ≡ false → active_at g 1 ≡ false → (j : ℕ) → 2 ≤ j → j < 8 → active_at g j ≡ true
       → (k : ℕ) → 8 ≤ k → k < 16 → active_at g k ≡ true → ((i : ℕ) → 8 ≤ i → i < k → active_at g i ≡ false)
       → (ls ≡ told k Exit g.levels) × (level_at ls j ≡ level_at g.levels j)
@@ -83,7 +83,7 @@ pub record Laws : Type 0 where
   pub leaves_zero : (c : LevelControl) (s : Cpu) → level_at (write_function (WriteLevels c) s).guard.levels 0 ≡ level_at s.guard.levels 0
   -- an exit clears a level by II and EI as they are before the step
   pub exits : (ea : ℕ) (m : Machine) → ExitsBy ea m → Clears m.cpu.guard (step m).after.cpu.guard.levels
-  -- and it clears the same one whatever status words it loads
+  -- so it does in any state in which an exit may be made, and whatever status words it loads
   pub exits_by_any_words : (x p : ℕ) (s : Cpu) → Clears s.guard (leave_cpu x p s).guard.levels
   -- II and EI after it are those of the first status word
   pub exits_load : (ea : ℕ) (m : Machine) → ExitsBy ea m

@@ -77,6 +77,8 @@ impl Levels {
 
     /// Hands the exit event to the lowest active level that is not inhibited, or, where all active ones are inhibited, to the lowest
     /// of them; where none is active, all stay.
+    // Exits are rare, and a step has fewer instructions where this stands apart.
+    #[cold]
     pub fn release(&mut self, inhibits: Inhibits)
         ensures { records self.new ≡ released inhibits.ii inhibits.ei (records self.old) }
     {

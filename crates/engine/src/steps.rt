@@ -1,6 +1,6 @@
 //! One step.
 ghost use Rattle.std.specs.Prelude.{◌≡◌, true, Some};
-ghost use Rattle.machine.specs.Decode.{address as addressed, relative};
+ghost use Rattle.machine.specs.Decode.{address as addressed};
 ghost use Rattle.machine.specs.Step.{at_fetch, by_fetch, enter, exits, fetched, index, instruction_at, judgement, permitted, step as stepped};
 ghost use Rattle.machine.specs.Words.{read as word_at};
 ghost use Rattle.isolation.specs.Isolation.{Confined};
@@ -10,7 +10,8 @@ ghost use Rattle.engine.specs.View.{seen};
 use crate::processor::{Processor, Running};
 use levels::bit_of;
 use machine::{
-    Instruction, Mark, Outcome, Violation, ViolationKind, Work, add, addresses, decode, subtract,
+    Instruction, Mark, Outcome, Violation, ViolationKind, Work, add, addresses, decode, relative,
+    subtract,
 };
 use memory::Memory;
 
@@ -191,7 +192,7 @@ fn address<M: Memory>(memory: &mut M, work: Work, word: u16) -> u16
         return 0;
     }
     let reference = if bit_of(word, 4) {
-        target(work.p, word)
+        relative(work.p, word)
     } else if bit_of(word, 7) {
         (word % 256).wrapping_add(work.x2)
     } else {
@@ -218,17 +219,5 @@ fn instruction<M: Memory>(memory: &mut M, work: Work) -> Instruction
 {
     let word = read(memory, work.p);
     let address = address(memory, work, word);
-    decode(word, address, target(work.p, word))
-}
-
-// The place that a word at `place` reaches relative to it.
-fn target(place: u16, word: u16) -> u16
-    ensures { result ≡ relative place word }
-{
-    let forward = place.wrapping_add(word % 256);
-    if bit_of(word, 7) {
-        forward.wrapping_sub(256)
-    } else {
-        forward
-    }
+    decode(word, address, relative(work.p, word))
 }

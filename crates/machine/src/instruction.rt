@@ -1,6 +1,6 @@
 //! Instruction words, decoded.
 ghost use Rattle.std.specs.Prelude.{◌≡◌};
-ghost use Rattle.machine.specs.Decode.{decoded, has_address, transferred};
+ghost use Rattle.machine.specs.Decode.{decoded, has_address, relative, transferred};
 
 use levels::{LevelControl, Property, bit_of};
 
@@ -120,6 +120,19 @@ pub fn addresses(word: u16) -> bool
     ensures { result ≡ has_address word }
 {
     (ADDRESSED >> (word / 4096)) % 2 == 1
+}
+
+/// The place that an instruction word at `place` reaches relative to it, by R addressing and by a branch: `place`, plus D, less
+/// 256 where S is 1, modulo 65,536. Each step of the sum is made in 16 bits and wraps.
+pub fn relative(place: u16, word: u16) -> u16
+    ensures { result ≡ relative place word }
+{
+    let forward = place.wrapping_add(word % 256);
+    if bit_of(word, 7) {
+        forward.wrapping_sub(256)
+    } else {
+        forward
+    }
 }
 
 /// The instruction of a word, of its effective address and of the target that a branch of it has.

@@ -14,6 +14,7 @@ mod work;
 pub use call::{Answer, Call, Counts, LONGEST_RUN, Outcome, Signalled};
 pub use instruction::{
     Condition, Instruction, Join, ReadFunction, Transfer, WriteFunction, addresses, decode,
+    relative,
 };
 pub use protection::Protection;
 pub use refusal::Refusal;

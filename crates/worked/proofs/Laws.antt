@@ -1,5 +1,5 @@
 -- The laws.
-use Rattle.std.proofs.Common.{◌≡◌, ℕ, zero, suc, ◌+◌, ◌<◌, ◌≤◌, Bool, true, false, ◌⊎◌, List, Some, None, sym, refl, ap, ◌∙◌, inl, inr, arith, get_or-set_other, get_or-set_same}
+use Rattle.std.proofs.Common.{◌≡◌, ℕ, zero, suc, ◌+◌, ◌<◌, ◌≤◌, Bool, true, false, cond, ◌*◌, ◌/◌, ◌%◌, ◌⊎◌, List, Some, None, sym, refl, ap, ◌∙◌, inl, inr, arith, get_or-set_other, get_or-set_same}
 use Rattle.std.proofs.lemmas.Bool.{both_ways, cases_eq, cases_order}
 use Rattle.std.proofs.lemmas.Bool.Decides.{nat_tests}
 use Rattle.levels.specs.declared.level.Level.{Level}
@@ -10,7 +10,11 @@ use Rattle.levels.specs.declared.level.Sight.TheVariants.{Enters, Blocks, Passes
 use Rattle.levels.specs.Levels.{choose, inhibited, is_active, is_waiting, level_at, lowest, preset, sighted, sighted_by, taken}
 use Rattle.worked.proofs.Exits.{clears, exit_is}
 use Rattle.worked.proofs.Bank.{below, shows, within}
-use Rattle.worked.specs.Laws.{Laws, MayEnter}
+use Rattle.worked.specs.Laws.{Laws, MayEnter, Remainder}
+use Rattle.std.specs.Prelude.{pos, ◌+ℤ◌, ◌-ℤ◌}
+use Rattle.std.proofs.lemmas.Int.{int_rem_euclid_is, ints}
+use Rattle.levels.specs.Bits.{one}
+use Rattle.machine.specs.Decode.{relative}
 
 zero≢one : ◌≡◌ {A = ℕ} 0 1 → ⊥
 zero≢one e = omega arith
@@ -147,6 +151,19 @@ module _ (ii ei : Bool) (ls : List Level) where
         ]
       ]
 
+-- the remainder of i + D - 256 S
+remainder : (i d : ℕ) (s : Bool) (r : ℕ) → r ≡ (i + d + cond s 65280 0) % 65536 → Remainder (pos i +ℤ pos d -ℤ pos (256 * one s)) r
+remainder i d true r e = record {
+  below = omega arith;
+  whole = (pos ((i + d + 65280) / 65536) -ℤ pos 1, omega (arith, ints));
+  euclidean = int_rem_euclid_is (pos i +ℤ pos d -ℤ pos 256) (pos 65536) 65536 1 (i + d + 65280) (omega arith) refl (omega (arith, ints)) ∙ ap pos (sym e);
+}
+remainder i d false r e = record {
+  below = omega arith;
+  whole = (pos ((i + d) / 65536), omega (arith, ints));
+  euclidean = int_rem_euclid_is (pos i +ℤ pos d -ℤ pos 0) (pos 65536) 65536 0 (i + d + 0) (omega arith) refl (omega (arith, ints)) ∙ ap pos (sym e);
+}
+
 pub laws : Laws
 laws = record {
   enters = first_may;
@@ -161,6 +178,8 @@ laws = record {
   exits = λ ea m e. rw (exit_is ea m e) (clears m.cpu.guard);
   exits_by_any_words = λ x p s. clears s.guard;
   exits_load = λ ea m e. rw (exit_is ea m e) (refl, refl);
+  relative_sum = λ i d s w e f. remainder i d s (relative i w) (rw (e, f) refl);
+  relative_wraps = λ w e f. rw (e, f) refl;
   sums = λ a b h k. (λ c. grind (arith, nat_tests), λ c. grind (arith, nat_tests));
   borrows = λ a b h k. (λ c. grind (arith, nat_tests), λ c. grind (arith, nat_tests));
 }

@@ -1,5 +1,6 @@
 -- Laws of the rules, in the words of the machine's users.
-use Rattle.std.specs.Prelude.{◌≡◌, ℕ, ◌+◌, ◌<◌, ◌≤◌, Bool, true, false, cond, ◌⊎◌, List, length, Some, None, ◌≢◌}
+use Rattle.std.specs.Prelude.{◌≡◌, ℕ, ◌+◌, ◌*◌, ◌<◌, ◌≤◌, Bool, true, false, cond, ◌⊎◌, List, length, Some, None, ◌≢◌, ℤ, pos, ◌+ℤ◌, ◌-ℤ◌, ◌*ℤ◌}
+use Rattle.std.specs.Int.{int_rem_euclid}
 use Rattle.levels.specs.declared.level.Event.{Event}
 use Rattle.levels.specs.declared.level.Event.TheVariants.{Exit}
 use Rattle.levels.specs.declared.level.Level.{Level}
@@ -7,8 +8,9 @@ use Rattle.levels.specs.declared.level.LevelControl.{LevelControl}
 use Rattle.levels.specs.declared.level.Property.{Property}
 use Rattle.machine.specs.declared.instruction.ReadFunction.TheVariants.{Levels as ReadLevels}
 use Rattle.machine.specs.declared.instruction.WriteFunction.TheVariants.{Levels as WriteLevels}
-use Rattle.levels.specs.Bits.{bit}
+use Rattle.levels.specs.Bits.{bit, one}
 use Rattle.machine.specs.Arithmetic.{added, subtracted}
+use Rattle.machine.specs.Decode.{displacement, relative}
 use Rattle.levels.specs.Levels.{controlled, enabling, has, inhibited, is_active, is_waiting, level_at, lowest, taken, told}
 use Rattle.machine.specs.declared.instruction.Instruction.TheVariants.{Ldx}
 use Rattle.machine.specs.declared.state.Mark.TheVariants.{Exit as ExitMark}
@@ -62,6 +64,12 @@ pub record ExitsBy (ea : ℕ) (m : Machine) : Type 0 where
   pub fetch : fetch_pp m.cpu.switch m.cpu.pp (protects m.cpu.guard.protection m.cpu.work.p) ≡ Some true
   pub ldx : instruction m ≡ Ldx ea
 
+-- r is the non-negative remainder of z by 65,536: it is below 65,536, and z is r and a whole number of times 65,536
+pub record Remainder (z : ℤ) (r : ℕ) : Type 0 where
+  pub below : r < 65536
+  pub whole : (q : ℤ) × (z ≡ q *ℤ pos 65536 +ℤ pos r)
+  pub euclidean : int_rem_euclid z (pos 65536) ≡ pos r
+
 -- what holds of every machine, whatever it is
 pub record Laws : Type 0 where
   -- the level that enters is the lowest of levels 0 to 15 that may
@@ -88,6 +96,10 @@ pub record Laws : Type 0 where
   -- II and EI after it are those of the first status word
   pub exits_load : (ea : ℕ) (m : Machine) → ExitsBy ea m
       → ((step m).after.cpu.guard.ii ≡ bit (read m.words ea) 12) × ((step m).after.cpu.guard.ei ≡ bit (read m.words ea) 13)
+  -- the sum behind R addressing and a branch's target is the remainder of i + D - 256 S, for every i, D and S
+  pub relative_sum : (i d : ℕ) (s : Bool) (w : ℕ) → displacement w ≡ d → bit w 7 ≡ s → Remainder (pos i +ℤ pos d -ℤ pos (256 * one s)) (relative i w)
+  -- so it is 65,280 for i 0, D 0, S 1
+  pub relative_wraps : (w : ℕ) → displacement w ≡ 0 → bit w 7 ≡ true → relative 0 w ≡ 65280
   -- a sum and 65,536 times its carry is what was added
   pub sums : (a b : ℕ) → a < 65536 → b < 65536 → ((added a b false).carry ≡ false → (added a b false).word ≡ a + b) × ((added a b false).carry ≡ true → (added a b false).word + 65536 ≡ a + b)
   -- the carry of a difference is its borrow

@@ -1,0 +1,11 @@
+use Rattle.std.proofs.Common.{◌≡◌, ◌≤◌, ◌*◌}
+use Rattle.std.specs.List.{range_with_len, sum_by}
+use Rattle.comparison.specs.Cases.{differing_at}
+use Rattle.comparison.proofs.compare.Given as goal
+
+-- the cases of each place so far are counted
+abbrev pub invariant-loop-place : goal.invariant-loop-place
+invariant-loop-place g l =
+    (l.comparison.cases ≡ 512 * l.place)
+    × ((l.comparison.differences ≡ sum_by (differing_at g.A.Adder.sum) (range_with_len 0 l.place))
+    × (l.comparison.differences ≤ l.comparison.cases))

@@ -1,5 +1,5 @@
--- Sums over the numbers below another.
-use Rattle.std.proofs.Common.{refl, zero, suc, ◌<◌, ◌≡◌, ℕ, ◌+◌, ◌≤◌, sym, ap, ◌∙◌, arith}
+-- Sums over the numbers below another, and how many cases differ so far.
+use Rattle.std.proofs.Common.{◌≡◌, ℕ, zero, suc, ◌+◌, ◌<◌, ◌≤◌, refl, sym, ap, ◌∙◌, arith}
 use Rattle.std.specs.List.{range_with_len, sum_by}
 use Rattle.std.proofs.lemmas.List.{map-id}
 use Rattle.std.proofs.lemmas.List.FromFn.{sum_by-map-range_with_len_more}
@@ -21,6 +21,7 @@ pub all_zero : (f : ℕ → ℕ) (n : ℕ) → ((k : ℕ) → k < n → f k ≡ 
 all_zero f zero h = refl
 all_zero f (suc n) h = let e : n + 1 ≡ suc n = omega arith in last f n (suc n) e ∙ omega (arith, h n (omega arith), all_zero f n (λ k l. h k (omega arith)))
 
+-- in how many cases the sum differs, with the last displacement, and with the last place
 pub last_displacement : (sum : ℕ → ℕ → ℕ) (i d : ℕ) → d ≤ 255 → 255 ≤ d
     → differing_at sum i ≡ sum_by (differing_by sum i) (range_with_len 0 d) + differing_by sum i d
 unfolding differing_at

@@ -1,14 +1,14 @@
 -- The sum of the machine is that in signed numbers.
-use Rattle.std.proofs.Common.{ap, ◌≡◌, ℕ, ◌+◌, ◌*◌, ◌<◌, ◌%◌, Bool, true, false, cond, refl, ◌∙◌, arith}
+use Rattle.std.proofs.Common.{◌≡◌, ℕ, ◌+◌, ◌*◌, ◌<◌, ◌%◌, Bool, true, false, cond, refl, ap, ◌∙◌, arith}
 use Rattle.std.specs.Prelude.{codes, pos, ◌+ℤ◌, ◌-ℤ◌}
+use Rattle.std.specs.Fmt.{digits}
 use Rattle.std.specs.Int.{int_rem_euclid}
 use Rattle.std.proofs.lemmas.Int.{int_rem_euclid_is, ints}
-use Rattle.std.specs.Fmt.{digits}
-use Rattle.comparison.proofs.Cases.{all_zero, last_place, more}
 use Rattle.levels.specs.Bits.{bit, one}
 use Rattle.machine.specs.Decode.{displacement, relative}
 use Rattle.comparison.specs.declared.Case.{Case}
 use Rattle.comparison.specs.Cases.{comparison_text, differing, differing_at, differing_by, differs, remainder, word_of}
+use Rattle.comparison.proofs.Cases.{all_zero, last_place, more}
 
 -- i + D - 256 S by the 16-bit sum
 signed : (i d : ℕ) (s : Bool) → int_rem_euclid (pos i +ℤ pos d -ℤ pos (256 * one s)) (pos 65536) ≡ pos ((i + d + cond s 65280 0) % 65536)

@@ -8,7 +8,7 @@ ghost use Rattle.comparison.specs.Cases.{comparison_text, differing, differing_a
 
 use std::fmt;
 
-/// What makes the 16-bit sum of a place i and the D and S of an instruction word.
+/// What makes the 16-bit sum i + D - 256 S of a place i and of the D and S of an instruction word.
 pub trait Adder {
     // The sum by the place and the word.
     ghost sum: { ℕ → ℕ → ℕ };
@@ -18,7 +18,7 @@ pub trait Adder {
         ensures { result ≡ sum place word };
 }
 
-/// The adder of the machine, which its addresses and branches go through.
+/// The machine's own: `machine::relative`, which R addressing and branches go through.
 pub struct MachineAdder;
 
 impl Adder for MachineAdder {
@@ -80,7 +80,7 @@ impl fmt::Display for Comparison {
 impl Comparison {
     // One case more.
     fn count<A: Adder>(&mut self, case: Case)
-        requires room { self.old.cases < 33554432 }
+        requires room { self.old.cases < 65536 * 256 * 2 }
         requires within { self.old.differences ≤ self.old.cases }
         ensures cases { self.new.cases ≡ self.old.cases + 1 }
         ensures differences { self.new.differences ≡ self.old.differences + one (differs A.sum case) }
@@ -91,12 +91,12 @@ impl Comparison {
         }
     }
 
-    // The cases of a place more.
+    // Every D and S of one place more.
     #[tactic(auto, using(crate::proofs::Cases::displacements))]
     fn count_place<A: Adder>(&mut self, place: u16)
-        requires room { self.old.cases + 512 ≤ 33554432 }
+        requires room { self.old.cases + 256 * 2 ≤ 65536 * 256 * 2 }
         requires within { self.old.differences ≤ self.old.cases }
-        ensures cases { self.new.cases ≡ self.old.cases + 512 }
+        ensures cases { self.new.cases ≡ self.old.cases + 256 * 2 }
         ensures differences { self.new.differences ≡ self.old.differences + differing_at A.sum place }
         ensures within { self.new.differences ≤ self.new.cases }
     {
@@ -115,7 +115,7 @@ impl Comparison {
     }
 }
 
-/// Compares a sum at every i, D and S.
+/// Compares an adder's sum with the sum in 64-bit signed numbers modulo 65,536, at every i, D and S. It refuses nothing.
 #[tactic(auto, using(crate::proofs::Relative::places))]
 pub fn compare<A: Adder>() -> Comparison
     ensures cases { result.cases ≡ 65536 * 256 * 2 }

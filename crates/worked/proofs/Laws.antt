@@ -1,20 +1,20 @@
 -- The laws.
-use Rattle.std.proofs.Common.{◌≡◌, ℕ, zero, suc, ◌+◌, ◌<◌, ◌≤◌, Bool, true, false, cond, ◌*◌, ◌/◌, ◌%◌, ◌⊎◌, List, Some, None, sym, refl, ap, ◌∙◌, inl, inr, arith, get_or-set_other, get_or-set_same}
+use Rattle.std.proofs.Common.{◌≡◌, ℕ, zero, suc, ◌+◌, ◌*◌, ◌/◌, ◌%◌, ◌<◌, ◌≤◌, Bool, true, false, cond, ◌⊎◌, List, Some, None, sym, refl, ap, ◌∙◌, inl, inr, arith, get_or-set_other, get_or-set_same}
+use Rattle.std.specs.Prelude.{pos, ◌+ℤ◌, ◌-ℤ◌}
 use Rattle.std.proofs.lemmas.Bool.{both_ways, cases_eq, cases_order}
 use Rattle.std.proofs.lemmas.Bool.Decides.{nat_tests}
+use Rattle.std.proofs.lemmas.Int.{int_rem_euclid_is, ints}
 use Rattle.levels.specs.declared.level.Level.{Level}
 use Rattle.levels.specs.declared.level.LevelState.{LevelState}
 use Rattle.levels.specs.declared.level.LevelState.TheVariants.{Disarmed, Armed, Waiting, Active}
 use Rattle.levels.specs.declared.level.Sight.{Sight}
 use Rattle.levels.specs.declared.level.Sight.TheVariants.{Enters, Blocks, Passes}
+use Rattle.levels.specs.Bits.{one}
 use Rattle.levels.specs.Levels.{choose, inhibited, is_active, is_waiting, level_at, lowest, preset, sighted, sighted_by, taken}
+use Rattle.machine.specs.Decode.{relative}
 use Rattle.worked.proofs.Exits.{clears, exit_is}
 use Rattle.worked.proofs.Bank.{below, shows, within}
 use Rattle.worked.specs.Laws.{Laws, MayEnter, Remainder}
-use Rattle.std.specs.Prelude.{pos, ◌+ℤ◌, ◌-ℤ◌}
-use Rattle.std.proofs.lemmas.Int.{int_rem_euclid_is, ints}
-use Rattle.levels.specs.Bits.{one}
-use Rattle.machine.specs.Decode.{relative}
 
 zero≢one : ◌≡◌ {A = ℕ} 0 1 → ⊥
 zero≢one e = omega arith

@@ -21,15 +21,15 @@ pub all_zero : (f : ℕ → ℕ) (n : ℕ) → ((k : ℕ) → k < n → f k ≡ 
 all_zero f zero h = refl
 all_zero f (suc n) h = let e : n + 1 ≡ suc n = omega arith in last f n (suc n) e ∙ omega (arith, h n (omega arith), all_zero f n (λ k l. h k (omega arith)))
 
--- in how many cases the sum differs, with the last displacement, and with the last place
+-- in how many cases the sum differs, with the last displacement, and with the last address
 pub last_displacement : (sum : ℕ → ℕ → ℕ) (i d : ℕ) → d ≤ 255 → 255 ≤ d
     → differing_at sum i ≡ sum_by (differing_by sum i) (range_with_len 0 d) + differing_by sum i d
 unfolding differing_at
 last_displacement sum i d a b = last (differing_by sum i) d 256 (omega arith)
 
-pub last_place : (sum : ℕ → ℕ → ℕ) (i : ℕ) → i ≤ 65535 → 65535 ≤ i
+pub last_address : (sum : ℕ → ℕ → ℕ) (i : ℕ) → i ≤ 65535 → 65535 ≤ i
     → differing sum ≡ sum_by (differing_at sum) (range_with_len 0 i) + differing_at sum i
 unfolding differing
-last_place sum i a b = last (differing_at sum) i 65536 (omega arith)
+last_address sum i a b = last (differing_at sum) i 65536 (omega arith)
 
 pub ruleset displacements = (more, last_displacement)

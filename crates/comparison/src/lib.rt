@@ -4,35 +4,36 @@
 ghost use Rattle.std.specs.Prelude.{◌≡◌, ℕ, ◌<◌, ◌≤◌, ◌+◌, ◌*◌, Some, codes};
 ghost use Rattle.levels.specs.Bits.{one};
 ghost use Rattle.machine.specs.Decode.{relative};
-ghost use Rattle.comparison.specs.Cases.{comparison_text, differing, differing_at, differs, remainder, word_of};
+ghost use Rattle.comparison.specs.Cases.{AsMachine, comparison_line, differing, differing_at, differs, remainder, word_of};
 
 use std::fmt;
 
-/// What makes the 16-bit sum i + D - 256 S of a place i and of the D and S of an instruction word.
+/// An adder in 16 bits for relative addresses: it is to make i + D - 256 S of an address i and of an instruction word, in which D is
+/// bits 8 to 15 and S is bit 7.
 pub trait Adder {
-    // The sum by the place and the word.
+    // What it makes of an address and a word.
     ghost sum: { ℕ → ℕ → ℕ };
 
-    /// The sum at a place, by an instruction word.
-    fn relative(place: u16, word: u16) -> u16
-        ensures { result ≡ sum place word };
+    /// What it makes of an address and an instruction word.
+    fn relative(address: u16, word: u16) -> u16
+        ensures { result ≡ sum address word };
 }
 
-/// The machine's own: `machine::relative`, which R addressing and branches go through.
+/// The adder of the machine: `machine::relative`, which R addressing and branches go through.
 pub struct MachineAdder;
 
 impl Adder for MachineAdder {
     ghost sum = { relative };
 
-    fn relative(place: u16, word: u16) -> u16 {
-        machine::relative(place, word)
+    fn relative(address: u16, word: u16) -> u16 {
+        machine::relative(address, word)
     }
 }
 
-// A place i, a displacement D, and whether S is 1.
+// An address i, a displacement D, and whether S is 1.
 #[derive(Clone, Copy)]
 struct Case {
-    place: u16,
+    address: u16,
     displacement: u8,
     backward: bool,
 }
@@ -49,20 +50,21 @@ impl Case {
     fn remainder(self) -> i64
         ensures { result ≡ remainder self }
     {
-        let sum = i64::from(self.place) + i64::from(self.displacement)
+        let sum = i64::from(self.address) + i64::from(self.displacement)
             - 256 * i64::from(self.backward);
         sum.rem_euclid(65536)
     }
 
-    // Whether the two sums differ.
+    // Whether an adder makes another number of it than the signed sum.
     fn differs<A: Adder>(self) -> bool
         ensures { result ≡ differs A.sum self }
     {
-        i64::from(A::relative(self.place, self.word())) != self.remainder()
+        i64::from(A::relative(self.address, self.word())) != self.remainder()
     }
 }
 
-/// How many cases were compared, and in how many of them the two sums differ.
+/// How many cases were compared, and in how many of them an adder makes another number than the sum in 64-bit signed numbers. Its text
+/// is the two numbers in decimal, with a blank between and a line feed at the end.
 #[derive(Clone, Copy, PartialEq, Eq, Debug, Default)]
 pub struct Comparison {
     pub cases: u32,
@@ -70,10 +72,10 @@ pub struct Comparison {
 }
 
 impl fmt::Display for Comparison {
-    ghost output = { λ x. Some (comparison_text x.cases x.differences) };
+    ghost output = { λ x. Some (comparison_line x.cases x.differences) };
 
     fn fmt<W: fmt::Write>(&self, f: &mut fmt::Formatter<W>) -> fmt::Result {
-        write!(f, "{} {}", self.cases, self.differences)
+        writeln!(f, "{} {}", self.cases, self.differences)
     }
 }
 
@@ -91,18 +93,18 @@ impl Comparison {
         }
     }
 
-    // Every D and S of one place more.
+    // The cases of an address more: every D and S.
     #[tactic(auto, using(crate::proofs::Cases::displacements))]
-    fn count_place<A: Adder>(&mut self, place: u16)
+    fn count_at<A: Adder>(&mut self, address: u16)
         requires room { self.old.cases + 256 * 2 ≤ 65536 * 256 * 2 }
         requires within { self.old.differences ≤ self.old.cases }
         ensures cases { self.new.cases ≡ self.old.cases + 256 * 2 }
-        ensures differences { self.new.differences ≡ self.old.differences + differing_at A.sum place }
+        ensures differences { self.new.differences ≡ self.old.differences + differing_at A.sum address }
         ensures within { self.new.differences ≤ self.new.cases }
     {
         for displacement in 0..=u8::MAX {
             let forward = Case {
-                place,
+                address,
                 displacement,
                 backward: false,
             };
@@ -115,17 +117,18 @@ impl Comparison {
     }
 }
 
-/// Compares an adder's sum with the sum in 64-bit signed numbers modulo 65,536, at every i, D and S. It refuses nothing.
-#[tactic(auto, using(crate::proofs::Relative::places))]
+/// Compares an adder with the sum i + D - 256 S in 64-bit signed numbers, modulo 65,536, in each case: i 0 to 65,535, D 0 to 255, S 0
+/// and 1. In the words that the adder is given all other bits are 0. It refuses nothing.
+#[tactic(auto, using(crate::proofs::Relative::addresses))]
 pub fn compare<A: Adder>() -> Comparison
     ensures cases { result.cases ≡ 65536 * 256 * 2 }
     ensures differences { result.differences ≡ differing A.sum }
-    ensures machine { A.sum ≡ relative → result.differences ≡ 0 }
-    ensures text { A.sum ≡ relative → ⟦<Comparison as fmt::Display>⟧.output result ≡ Some (codes "33554432 0") }
+    ensures machine { AsMachine A.sum → result.differences ≡ 0 }
+    ensures line { AsMachine A.sum → ⟦<Comparison as fmt::Display>⟧.output result ≡ Some (codes "33554432 0\n") }
 {
     let mut comparison = Comparison::default();
-    for place in 0..=u16::MAX {
-        comparison.count_place::<A>(place);
+    for address in 0..=u16::MAX {
+        comparison.count_at::<A>(address);
     }
     comparison
 }

@@ -122,12 +122,12 @@ pub fn addresses(word: u16) -> bool
     (ADDRESSED >> (word / 4096)) % 2 == 1
 }
 
-/// The place that an instruction word at `place` reaches relative to it, by R addressing and by a branch: `place`, plus D, less
-/// 256 where S is 1, modulo 65,536. Each step of the sum is made in 16 bits and wraps.
-pub fn relative(place: u16, word: u16) -> u16
-    ensures { result ≡ relative place word }
+/// The address i + D - 256 S modulo 65,536, of an instruction word at address i: the reference of R addressing, and the target of a
+/// branch. D is bits 8 to 15 of the word, S is bit 7, and no other bit counts. Each step of the sum is made in 16 bits and wraps.
+pub fn relative(address: u16, word: u16) -> u16
+    ensures { result ≡ relative address word }
 {
-    let forward = place.wrapping_add(word % 256);
+    let forward = address.wrapping_add(word % 256);
     if bit_of(word, 7) {
         forward.wrapping_sub(256)
     } else {

@@ -8,5 +8,5 @@ use std::io;
 mod wrong;
 
 fn main(rt: HostRuntime) -> io::Result<()> {
-    println!(rt; "{}", compare::<MachineAdder>())
+    rt.print(compare::<MachineAdder>())
 }

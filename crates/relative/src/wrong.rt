@@ -11,8 +11,8 @@ struct Less255;
 impl Adder for Less255 {
     ghost sum = { λ i w. (i + w % 256 + cond (bit w 7) 65281 0) % 65536 };
 
-    fn relative(place: u16, word: u16) -> u16 {
-        let forward = place.wrapping_add(word % 256);
+    fn relative(address: u16, word: u16) -> u16 {
+        let forward = address.wrapping_add(word % 256);
         if bit_of(word, 7) {
             forward.wrapping_sub(255)
         } else {
@@ -27,8 +27,8 @@ struct SignTurned;
 impl Adder for SignTurned {
     ghost sum = { λ i w. (i + w % 256 + cond (not (bit w 7)) 65280 0) % 65536 };
 
-    fn relative(place: u16, word: u16) -> u16 {
-        let forward = place.wrapping_add(word % 256);
+    fn relative(address: u16, word: u16) -> u16 {
+        let forward = address.wrapping_add(word % 256);
         if bit_of(word, 7) {
             forward
         } else {
@@ -43,8 +43,8 @@ struct AddedTwice;
 impl Adder for AddedTwice {
     ghost sum = { λ i w. (i + w % 256 * 2 + cond (bit w 7) 65280 0) % 65536 };
 
-    fn relative(place: u16, word: u16) -> u16 {
-        let forward = place.wrapping_add(word % 256 * 2);
+    fn relative(address: u16, word: u16) -> u16 {
+        let forward = address.wrapping_add(word % 256 * 2);
         if bit_of(word, 7) {
             forward.wrapping_sub(256)
         } else {

@@ -9,9 +9,13 @@ use Rattle.levels.specs.declared.level.LevelState.{LevelState}
 use Rattle.levels.specs.declared.level.LevelState.TheVariants.{Disarmed, Armed, Waiting, Active}
 use Rattle.levels.specs.declared.level.Sight.{Sight}
 use Rattle.levels.specs.declared.level.Sight.TheVariants.{Enters, Blocks, Passes}
-use Rattle.levels.specs.Bits.{one}
+use Rattle.levels.specs.Bits.{bit, one}
 use Rattle.levels.specs.Levels.{choose, inhibited, is_active, is_waiting, level_at, lowest, preset, sighted, sighted_by, taken}
-use Rattle.machine.specs.Decode.{relative}
+use Rattle.machine.specs.declared.instruction.Instruction.TheVariants.{Branch}
+use Rattle.machine.specs.Decode.{code, condition, displacement, relative}
+use Rattle.machine.specs.State.{Machine}
+use Rattle.machine.specs.Step.{instruction, instruction_at}
+use Rattle.machine.specs.Words.{read}
 use Rattle.worked.proofs.Exits.{clears, exit_is}
 use Rattle.worked.proofs.Bank.{below, shows, within}
 use Rattle.worked.specs.Laws.{Laws, MayEnter, Remainder}
@@ -164,6 +168,16 @@ remainder i d false r e = record {
   euclidean = int_rem_euclid_is (pos i +ℤ pos d -ℤ pos 0) (pos 65536) 65536 0 (i + d + 0) (omega arith) refl (omega (arith, ints)) ∙ ap pos (sym e);
 }
 
+-- the D and S of a word, and what stands in code 6
+fields : (h d : ℕ) (s : Bool) → d < 256 → (displacement (512 * h + 256 * one s + d) ≡ d) × (bit (512 * h + 256 * one s + d) 7 ≡ s)
+fields h d true l = grind arith
+fields h d false l = grind arith
+
+branch_at : (m : Machine) → code (read m.words m.cpu.work.p) ≡ 6
+    → instruction m ≡ Branch (condition (read m.words m.cpu.work.p / 512 % 8)) (relative m.cpu.work.p (read m.words m.cpu.work.p))
+unfolding instruction_at
+branch_at m e = rw e refl
+
 pub laws : Laws
 laws = record {
   enters = first_may;
@@ -178,8 +192,10 @@ laws = record {
   exits = λ ea m e. rw (exit_is ea m e) (clears m.cpu.guard);
   exits_by_any_words = λ x p s. clears s.guard;
   exits_load = λ ea m e. rw (exit_is ea m e) (refl, refl);
-  relative_sum = λ i d s w e f. remainder i d s (relative i w) (rw (e, f) refl);
-  relative_wraps = λ w e f. rw (e, f) refl;
+  relative_sum = λ h i d s l. let f = fields h d s l in remainder i d s (relative i (512 * h + 256 * one s + d)) (rw (f.0, f.1) refl);
+  relative_wraps = refl;
+  relative_reference = λ i w v e. rw e refl;
+  relative_target = λ m e. (condition (read m.words m.cpu.work.p / 512 % 8), branch_at m e);
   sums = λ a b h k. (λ c. grind (arith, nat_tests), λ c. grind (arith, nat_tests));
   borrows = λ a b h k. (λ c. grind (arith, nat_tests), λ c. grind (arith, nat_tests));
 }

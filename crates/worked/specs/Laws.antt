@@ -10,10 +10,12 @@ use Rattle.machine.specs.declared.instruction.ReadFunction.TheVariants.{Levels a
 use Rattle.machine.specs.declared.instruction.WriteFunction.TheVariants.{Levels as WriteLevels}
 use Rattle.levels.specs.Bits.{bit, one}
 use Rattle.machine.specs.Arithmetic.{added, subtracted}
-use Rattle.machine.specs.Decode.{displacement, relative}
+use Rattle.machine.specs.Decode.{code, reference, relative}
 use Rattle.levels.specs.Levels.{controlled, enabling, has, inhibited, is_active, is_waiting, level_at, lowest, taken, told}
-use Rattle.machine.specs.declared.instruction.Instruction.TheVariants.{Ldx}
+use Rattle.machine.specs.declared.instruction.Condition.{Condition}
+use Rattle.machine.specs.declared.instruction.Instruction.TheVariants.{Branch, Ldx}
 use Rattle.machine.specs.declared.state.Mark.TheVariants.{Exit as ExitMark}
+use Rattle.machine.specs.declared.work.Work.{Work}
 use Rattle.machine.specs.State.{Cpu, Guard, Machine}
 use Rattle.machine.specs.Step.{fetch_pp, instruction, leave_cpu, read_function, step, write_function}
 use Rattle.machine.specs.Words.{protects, read}
@@ -64,7 +66,8 @@ pub record ExitsBy (ea : ℕ) (m : Machine) : Type 0 where
   pub fetch : fetch_pp m.cpu.switch m.cpu.pp (protects m.cpu.guard.protection m.cpu.work.p) ≡ Some true
   pub ldx : instruction m ≡ Ldx ea
 
--- r is the non-negative remainder of z by 65,536: it is below 65,536, and z is r and a whole number of times 65,536
+-- r is the non-negative remainder of z by 65,536: it is below 65,536, and z is a whole number times 65,536, plus r; the standard library's
+-- rem_euclid gives it
 pub record Remainder (z : ℤ) (r : ℕ) : Type 0 where
   pub below : r < 65536
   pub whole : (q : ℤ) × (z ≡ q *ℤ pos 65536 +ℤ pos r)
@@ -96,10 +99,15 @@ pub record Laws : Type 0 where
   -- II and EI after it are those of the first status word
   pub exits_load : (ea : ℕ) (m : Machine) → ExitsBy ea m
       → ((step m).after.cpu.guard.ii ≡ bit (read m.words ea) 12) × ((step m).after.cpu.guard.ei ≡ bit (read m.words ea) 13)
-  -- the sum behind R addressing and a branch's target is the remainder of i + D - 256 S, for every i, D and S
-  pub relative_sum : (i d : ℕ) (s : Bool) (w : ℕ) → displacement w ≡ d → bit w 7 ≡ s → Remainder (pos i +ℤ pos d -ℤ pos (256 * one s)) (relative i w)
-  -- so it is 65,280 for i 0, D 0, S 1
-  pub relative_wraps : (w : ℕ) → displacement w ≡ 0 → bit w 7 ≡ true → relative 0 w ≡ 65280
+  -- the sum behind relative addresses is the remainder of i + D - 256 S, for every i, D and S, whatever stands in bits 0 to 6 of the word
+  pub relative_sum : (h i d : ℕ) (s : Bool) → d < 256 → Remainder (pos i +ℤ pos d -ℤ pos (256 * one s)) (relative i (512 * h + 256 * one s + d))
+  -- it is 65,280 for i 0, D 0, S 1
+  pub relative_wraps : relative 0 0x0100 ≡ 65280
+  -- it is the reference where R is 1
+  pub relative_reference : (i w : ℕ) (v : Work) → bit w 4 ≡ true → reference i v w ≡ relative i w
+  -- and the target of the branch at P, which code 6 is
+  pub relative_target : (m : Machine) → code (read m.words m.cpu.work.p) ≡ 6
+      → (c : Condition) × (instruction m ≡ Branch c (relative m.cpu.work.p (read m.words m.cpu.work.p)))
   -- a sum and 65,536 times its carry is what was added
   pub sums : (a b : ℕ) → a < 65536 → b < 65536 → ((added a b false).carry ≡ false → (added a b false).word ≡ a + b) × ((added a b false).carry ≡ true → (added a b false).word + 65536 ≡ a + b)
   -- the carry of a difference is its borrow

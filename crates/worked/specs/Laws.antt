@@ -105,7 +105,7 @@ pub record Laws : Type 0 where
   pub relative_wraps : relative 0 0x0100 ≡ 65280
   -- it is the reference where R is 1
   pub relative_reference : (i w : ℕ) (v : Work) → bit w 4 ≡ true → reference i v w ≡ relative i w
-  -- and the target of the branch at P, which code 6 is
+  -- and it is the target of a branch, which is code 6
   pub relative_target : (m : Machine) → code (read m.words m.cpu.work.p) ≡ 6
       → (c : Condition) × (instruction m ≡ Branch c (relative m.cpu.work.p (read m.words m.cpu.work.p)))
   -- a sum and 65,536 times its carry is what was added

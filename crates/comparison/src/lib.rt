@@ -8,8 +8,8 @@ ghost use Rattle.comparison.specs.Cases.{AsMachine, comparison_line, differing, 
 
 use std::fmt;
 
-/// An adder in 16 bits for relative addresses: it is to make i + D - 256 S of an address i and of an instruction word, in which D is
-/// bits 8 to 15 and S is bit 7.
+/// An adder in 16 bits for relative addresses: it is to make i + D - 256 S modulo 65,536 of an address i and of an instruction word, in
+/// which D is bits 8 to 15 and S is bit 7.
 pub trait Adder {
     // What it makes of an address and a word.
     ghost sum: { ℕ → ℕ → ℕ };
@@ -64,7 +64,8 @@ impl Case {
 }
 
 /// How many cases were compared, and in how many of them an adder makes another number than the sum in 64-bit signed numbers. Its text
-/// is the two numbers in decimal, with a blank between and a line feed at the end.
+/// is the two numbers in decimal, with a blank between and a line feed at the end. `compare` answers 33,554,432 cases, and 0 to as many
+/// differences.
 #[derive(Clone, Copy, PartialEq, Eq, Debug, Default)]
 pub struct Comparison {
     pub cases: u32,
@@ -123,6 +124,7 @@ impl Comparison {
 pub fn compare<A: Adder>() -> Comparison
     ensures cases { result.cases ≡ 65536 * 256 * 2 }
     ensures differences { result.differences ≡ differing A.sum }
+    ensures adder { AsMachine ⟦<MachineAdder as Adder>⟧.sum }
     ensures machine { AsMachine A.sum → result.differences ≡ 0 }
     ensures line { AsMachine A.sum → ⟦<Comparison as fmt::Display>⟧.output result ≡ Some (codes "33554432 0\n") }
 {

@@ -168,11 +168,12 @@ remainder i d false r e = record {
   euclidean = int_rem_euclid_is (pos i +ℤ pos d -ℤ pos 0) (pos 65536) 65536 0 (i + d + 0) (omega arith) refl (omega (arith, ints)) ∙ ap pos (sym e);
 }
 
--- the D and S of a word, and what stands in code 6
+-- the D and S of a word made of them
 fields : (h d : ℕ) (s : Bool) → d < 256 → (displacement (512 * h + 256 * one s + d) ≡ d) × (bit (512 * h + 256 * one s + d) 7 ≡ s)
 fields h d true l = grind arith
 fields h d false l = grind arith
 
+-- the instruction at P where its code is 6
 branch_at : (m : Machine) → code (read m.words m.cpu.work.p) ≡ 6
     → instruction m ≡ Branch (condition (read m.words m.cpu.work.p / 512 % 8)) (relative m.cpu.work.p (read m.words m.cpu.work.p))
 unfolding instruction_at
@@ -194,7 +195,7 @@ laws = record {
   exits_load = λ ea m e. rw (exit_is ea m e) (refl, refl);
   relative_sum = λ h i d s l. let f = fields h d s l in remainder i d s (relative i (512 * h + 256 * one s + d)) (rw (f.0, f.1) refl);
   relative_wraps = refl;
-  relative_reference = λ i w v e. rw e refl;
+  relative_address = λ i w v ws h r n x. rw (h, r, n, x) refl;
   relative_target = λ m e. (condition (read m.words m.cpu.work.p / 512 % 8), branch_at m e);
   sums = λ a b h k. (λ c. grind (arith, nat_tests), λ c. grind (arith, nat_tests));
   borrows = λ a b h k. (λ c. grind (arith, nat_tests), λ c. grind (arith, nat_tests));

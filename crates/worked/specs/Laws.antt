@@ -10,7 +10,7 @@ use Rattle.machine.specs.declared.instruction.ReadFunction.TheVariants.{Levels a
 use Rattle.machine.specs.declared.instruction.WriteFunction.TheVariants.{Levels as WriteLevels}
 use Rattle.levels.specs.Bits.{bit, one}
 use Rattle.machine.specs.Arithmetic.{added, subtracted}
-use Rattle.machine.specs.Decode.{code, reference, relative}
+use Rattle.machine.specs.Decode.{address, code, has_address, relative}
 use Rattle.levels.specs.Levels.{controlled, enabling, has, inhibited, is_active, is_waiting, level_at, lowest, taken, told}
 use Rattle.machine.specs.declared.instruction.Condition.{Condition}
 use Rattle.machine.specs.declared.instruction.Instruction.TheVariants.{Branch, Ldx}
@@ -103,8 +103,8 @@ pub record Laws : Type 0 where
   pub relative_sum : (h i d : ℕ) (s : Bool) → d < 256 → Remainder (pos i +ℤ pos d -ℤ pos (256 * one s)) (relative i (512 * h + 256 * one s + d))
   -- it is 65,280 for i 0, D 0, S 1
   pub relative_wraps : relative 0 0x0100 ≡ 65280
-  -- it is the reference where R is 1
-  pub relative_reference : (i w : ℕ) (v : Work) → bit w 4 ≡ true → reference i v w ≡ relative i w
+  -- it is the effective address where R is 1 and neither I nor X is
+  pub relative_address : (i w : ℕ) (v : Work) (ws : List ℕ) → has_address w ≡ true → bit w 4 ≡ true → bit w 5 ≡ false → bit w 6 ≡ false → address i v ws w ≡ relative i w
   -- and it is the target of a branch, which is code 6
   pub relative_target : (m : Machine) → code (read m.words m.cpu.work.p) ≡ 6
       → (c : Condition) × (instruction m ≡ Branch c (relative m.cpu.work.p (read m.words m.cpu.work.p)))

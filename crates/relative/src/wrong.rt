@@ -1,6 +1,7 @@
 //! Wrong adders, and how many differences a comparison finds with each.
-ghost use Rattle.std.specs.Prelude.{◌+◌, ◌*◌, ◌%◌, cond, not};
-ghost use Rattle.levels.specs.Bits.{bit};
+ghost use Rattle.std.specs.Prelude.{◌+◌, ◌%◌};
+ghost use Rattle.levels.specs.Bits.{bit, one};
+ghost use Rattle.machine.specs.Decode.{relative};
 
 use comparison::{Adder, Comparison, compare};
 use levels::bit_of;
@@ -9,31 +10,21 @@ use levels::bit_of;
 struct Less255;
 
 impl Adder for Less255 {
-    ghost sum = { λ i w. (i + w % 256 + cond (bit w 7) 65281 0) % 65536 };
+    ghost sum = { λ i w. relative ((i + one (bit w 7)) % 65536) w };
 
     fn relative(address: u16, word: u16) -> u16 {
-        let forward = address.wrapping_add(word % 256);
-        if bit_of(word, 7) {
-            forward.wrapping_sub(255)
-        } else {
-            forward
-        }
+        machine::relative(address.wrapping_add(u16::from(bit_of(word, 7))), word)
     }
 }
 
-// 256 is taken away where S is 0: all cases differ.
+// S is turned, so 256 is taken away where it is 0: all cases differ.
 struct SignTurned;
 
 impl Adder for SignTurned {
-    ghost sum = { λ i w. (i + w % 256 + cond (not (bit w 7)) 65280 0) % 65536 };
+    ghost sum = { λ i w. relative i ((w + 256) % 65536) };
 
     fn relative(address: u16, word: u16) -> u16 {
-        let forward = address.wrapping_add(word % 256);
-        if bit_of(word, 7) {
-            forward
-        } else {
-            forward.wrapping_sub(256)
-        }
+        machine::relative(address, word.wrapping_add(256))
     }
 }
 
@@ -41,15 +32,10 @@ impl Adder for SignTurned {
 struct AddedTwice;
 
 impl Adder for AddedTwice {
-    ghost sum = { λ i w. (i + w % 256 * 2 + cond (bit w 7) 65280 0) % 65536 };
+    ghost sum = { λ i w. relative ((i + w % 256) % 65536) w };
 
     fn relative(address: u16, word: u16) -> u16 {
-        let forward = address.wrapping_add(word % 256 * 2);
-        if bit_of(word, 7) {
-            forward.wrapping_sub(256)
-        } else {
-            forward
-        }
+        machine::relative(address.wrapping_add(word % 256), word)
     }
 }
 

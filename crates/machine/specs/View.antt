@@ -8,7 +8,7 @@ use Rattle.machine.specs.State.{Cpu, Machine}
 abbrev pub cpu_of : State → Cpu
 cpu_of s = record {
   work = s.work;
-  guard = record { protection = s.protection; ii = s.inhibits.ii; ei = s.inhibits.ei; levels = records s.levels };
+  guard = record { protection = s.protection.registers; ii = s.inhibits.ii; ei = s.inhibits.ei; levels = records s.levels };
   pp = s.pp;
   mark = s.mark;
   last = s.last;

@@ -1,5 +1,5 @@
 -- One record, or the end, at a place of an image.
-use Rattle.std.proofs.Common.{◌≡◌, ℕ, ◌+◌, ◌-◌, ◌<◌, ◌⊎◌, List, [], ◌∷◌, ◌++◌, length, get_or, drop, Some, None, Ok, Err, sym, ap, ◌∙◌, inl, inr, arith}
+use Rattle.std.proofs.Common.{◌≡◌, ℕ, ◌+◌, ◌-◌, ◌<◌, ◌≤◌, ◌⊎◌, List, [], ◌∷◌, ◌++◌, length, get_or, drop, Some, None, Ok, Err, sym, ap, ◌∙◌, inl, inr, arith}
 use Rattle.std.proofs.lemmas.List.{drop_all, drop_more, get_or-drop, length-append, length-drop}
 use Rattle.std.proofs.lemmas.Bool.Decides.{nat_tests}
 use Rattle.image.specs.declared.Cause.TheVariants.{UnknownKind, CutShort, AfterEnd}
@@ -29,6 +29,9 @@ module _ (bs : List ℕ) (p : ℕ) where
   -- what is read lies in the bytes, as its encoding
   pub read : Octets bs → (r : Record) → item_at bs p ≡ Ok (Some r) → drop p bs ≡ encode_record r ++ drop (p + size r) bs
   read o r e = grind (arith, nat_tests, drop_more)
+
+  pub within : (r : Record) → item_at bs p ≡ Ok (Some r) → p + size r ≤ length bs
+  within r e = grind (arith, nat_tests)
 
   pub ended : 0 < length bs → item_at bs p ≡ Ok None → drop p bs ≡ 255 ∷ []
   ended some e = grind (arith, nat_tests, drop_more, drop_all)

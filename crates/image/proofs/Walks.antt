@@ -30,13 +30,13 @@ abbrev pub from : ℕ → List ℕ → ℕ → Result (List Record) Fault
 from limit bs p = records_from (suc (length bs - p)) limit bs p
 
 module _ (limit : ℕ) (bs : List ℕ) (p : ℕ) where
-  at_record : (r : Record) → item_at bs p ≡ Ok (Some r) → storing limit p r ≡ Ok tt → from limit bs p ≡ first r (from limit bs (p + size r))
+  pub at_record : (r : Record) → item_at bs p ≡ Ok (Some r) → storing limit p r ≡ Ok tt → from limit bs p ≡ first r (from limit bs (p + size r))
   unfolding records_from
   at_record r e s =
       let some : 0 < length bs = grind (arith, nat_tests) in
       rw (e, s, enough (length bs - p) (suc (length bs - (p + size r))) limit bs (p + size r) some (omega (arith, size_pos r)) (omega (arith, size_pos r)))
 
-  at_refusal : (r : Record) (x : Fault) → item_at bs p ≡ Ok (Some r) → storing limit p r ≡ Err x → from limit bs p ≡ Err x
+  pub at_refusal : (r : Record) (x : Fault) → item_at bs p ≡ Ok (Some r) → storing limit p r ≡ Err x → from limit bs p ≡ Err x
   unfolding records_from
   at_refusal r x e s = rw (e, s)
 
@@ -68,7 +68,7 @@ complete limit _ _ no_bytes s = refl
 complete limit _ _ (encoded rs) s = from_start limit (encode rs) ∙ whole_back limit (encode rs) 0 rs refl s
 
 -- what the contract of the check asks of an answer
-abbrev Answered : ℕ → List ℕ → Result ℕ Fault → Type 0
+abbrev pub Answered : ℕ → List ℕ → Result ℕ Fault → Type 0
 Answered limit bs r = record { answer : r ≡ counted 0 (verdict limit bs); told : Told limit bs r; complete : Complete limit bs r }
 
 -- what the records from p on, or their fault, say of the bytes from there on

@@ -52,6 +52,7 @@ impl<'a> Reader<'a> {
     fn item(&mut self) -> Result<Option<Record>, Fault>
         ensures answer { result ≡ item_at self.old.bytes.now self.old.place }
         ensures after { OnOk result (self.new.place ≡ place_after self.old.bytes.now self.old.place result) }
+        ensures same { OnOk result (self.new.bytes ≡ self.old.bytes) }
     {
         if self.bytes.is_empty() {
             return Ok(None);

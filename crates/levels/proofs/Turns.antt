@@ -1,11 +1,13 @@
 -- Going through the levels one by one.
-use Rattle.std.proofs.Common.{◌≡◌, ℕ, zero, suc, ◌+◌, ◌-◌, ◌<◌, Bool, true, false, cond, List, set, None, Some, Option, refl, ◌∙◌, arith}
+use Rattle.std.proofs.Common.{◌≡◌, ℕ, zero, suc, ◌+◌, ◌-◌, ◌<◌, Bool, true, false, cond, List, length, set, None, Some, Option, refl, ap, ◌∙◌, inl, inr, arith}
+use Rattle.std.proofs.lemmas.List.{get_or_past}
+use Rattle.std.proofs.lemmas.Bool.{cases_lt}
 use Rattle.std.specs.List.{find, range_with_len}
 use Rattle.levels.specs.declared.level.LevelControl.{LevelControl}
 use Rattle.levels.specs.declared.level.Level.{Level}
 use Rattle.levels.specs.declared.level.LevelState.{LevelState}
 use Rattle.levels.specs.declared.level.LevelState.TheVariants.{Disarmed, Armed, Waiting, Active}
-use Rattle.levels.specs.Levels.{Quiet, choose, control_each, controlled, inhibited, is_waiting, level_at, lowest, sighted, sighted_by}
+use Rattle.levels.specs.Levels.{Quiet, choose, control_each, controlled, inhibited, is_waiting, level_at, lowest, preset, sighted, sighted_by}
 use Rattle.levels.specs.Bits.{bit}
 
 -- what a scan over the n levels from k on comes to, one level further
@@ -69,3 +71,11 @@ controls k c a ls new total b h inv e f =
 pub controls_none : (n k : ℕ) (c : LevelControl) (a : ℕ) (ls : List Level) → n ≡ 0 → control_each n k c a ls ≡ ls
 unfolding control_each
 controls_none n k c a ls e = rw e
+
+-- past the sixteen records none waits
+pub quiet_all : (ls : List Level) → length ls ≡ 16 → ((j : ℕ) → j < 16 → is_waiting (level_at ls j).state ≡ false) → Quiet ls
+quiet_all ls e h j =
+    elim (cases_lt j 16) [
+      | inl l ↦ h j l
+      | inr g ↦ ap (λ (l : Level). is_waiting l.state) (get_or_past ls j (preset 0) (omega arith))
+    ]

@@ -1,7 +1,8 @@
 -- Writes into core and joined memory, and what they leave.
 use Rattle.std.proofs.Common.{◌≡◌, ℕ, zero, suc, ◌+◌, ◌-◌, ◌<◌, min, List, [], ◌∷◌, ◌++◌, length, take, drop, set, sym, refl, ap, ◌∙◌, arith, MutBor}
+use base.Fml.{GName}
 use Rattle.std.proofs.lemmas.List.{length-take, length-set, length-append, set-append_left, set-append_right, drop-set-lt, take-append-drop, take_at, drop_at}
-use Rattle.memory.specs.Outer.{Outer, pair, outer_row, outer_pair}
+use Rattle.memory.specs.Outer.{Outer, row, pair, outer_row, outer_pair}
 use Rattle.memory.specs.Words.{whole, front, behind, joint}
 
 -- a write commutes with a cut
@@ -12,6 +13,19 @@ take_set_any (suc n) (y ∷ ys) zero x = refl
 take_set_any (suc n) (y ∷ ys) (suc i) x = ap (λ t. y ∷ t) (take_set_any n ys i x)
 
 -- ---- core memory
+
+-- the memory is the whole blocks at the front
+pub length_front : (xs : List ℕ) → length (front xs) ≡ whole (length xs)
+length_front xs = length-take (whole (length xs)) xs ∙ omega arith
+
+-- a write of the caller's words is one of the memory's
+pub front_set : (xs : List ℕ) (i x : ℕ) → front (set xs i x) ≡ set (front xs) i x
+front_set xs i x = ap (λ n. take (whole n) (set xs i x)) (length-set xs i x) ∙ take_set_any (whole (length xs)) xs i x
+
+-- a write within the memory leaves the words behind it
+pub row_set : (n : GName) (xs : List ℕ) (i x : ℕ) → i < whole (length xs) → row n (behind (set xs i x)) ≡ row n (behind xs)
+row_set n xs i x h =
+    ap (λ k. row n (drop (whole k) (set xs i x))) (length-set xs i x) ∙ ap (row n) (drop-set-lt (whole (length xs)) xs i x h)
 
 -- what the caller's words are: the memory's, then those behind it as they were
 pub rebuilt : (r s : MutBor (List ℕ)) (ws : List ℕ) → outer_row r ≡ outer_row s → front r.now ≡ ws → (r.ghost_name ≡ s.ghost_name) × (r.now ≡ ws ++ behind s.now)

@@ -2,7 +2,9 @@
 ghost use Rattle.std.specs.Prelude.{◌≡◌, true, IfOk};
 ghost use Rattle.isolation.specs.Isolation.{Confined};
 ghost use Rattle.isolation.specs.Steps.{Each};
-ghost use Rattle.machine.specs.Calls.{after_call, after_calls, answer as answered, as_answer, run_answer, run_trail, signal_answer, total};
+ghost use Rattle.machine.specs.Calls.{after_call, after_calls, answer as answered, as_answer, run_answer, run_trail, signal_answer, tallied, total};
+ghost use Rattle.machine.specs.Step.{step as stepped};
+ghost use Rattle.machine.specs.Tallies.{Room};
 ghost use Rattle.engine.specs.View.{seen};
 
 use crate::processor::{Idle, Processor, Running};
@@ -24,10 +26,19 @@ impl<M: Memory> Processor<Running, M> {
         }
         let mut counts = Counts::default();
         for _ in 0..steps {
-            let outcome = self.step();
-            counts.tally(outcome);
+            self.count_step(&mut counts);
         }
         Ok(counts)
+    }
+
+    // One step more of a run, and counted.
+    fn count_step(&mut self, counts: &mut Counts)
+        ensures counted { Room counts.old → counts.new ≡ tallied (stepped (seen M.words self.old)).outcome counts.old }
+        ensures after { seen M.words self.new ≡ (stepped (seen M.words self.old)).after }
+        ensures outside { M.outer self.new.memory ≡ M.outer self.old.memory }
+    {
+        let outcome = self.step();
+        counts.tally(outcome);
     }
 
     /// A signal to level 1 to 15.

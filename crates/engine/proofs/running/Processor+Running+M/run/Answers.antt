@@ -1,12 +1,12 @@
-use Rattle.std.proofs.Common.{◌∙◌, arith}
+use Rattle.std.proofs.Common.{◌∙◌, refl, arith}
 use Rattle.engine.specs.View.{seen}
 use Rattle.engine.proofs.Runs.{more, ran}
 use Rattle.engine.proofs.running.Processor+Running+M.run.Goals as goal
 
 pub loop-preserved : goal.loop-preserved
 loop-preserved g c =
-    let s = c.step-outcome.ensures in (
-      more c.args.steps c.loop.counter _ _ _ c.loop.counts _ c.step-outcome.result c.loop-test.true c.loop.invariant.0 s.answer s.after (c.tally.ensures.exact (omega (arith, c.loop.invariant.0.sum))),
+    let s = c.count_step.ensures in (
+      more c.args.steps c.loop.counter _ _ _ c.loop.counts _ _ c.loop-test.true c.loop.invariant.0 refl s.after (s.counted (omega (arith, c.loop.invariant.0.sum))),
       s.outside ∙ c.loop.invariant.1,
     )
 

@@ -4,7 +4,7 @@ ghost use Rattle.isolation.specs.Isolation.{Confined};
 ghost use Rattle.isolation.specs.Steps.{Each};
 ghost use Rattle.machine.specs.Calls.{after_call, after_calls, answer as answered, as_answer, run_answer, run_trail, signal_answer, tallied, total};
 ghost use Rattle.machine.specs.Step.{step as stepped};
-ghost use Rattle.machine.specs.Tallies.{Room};
+ghost use Rattle.machine.specs.Tallies.{Room, capped_tally};
 ghost use Rattle.engine.specs.View.{seen};
 
 use crate::processor::{Idle, Processor, Running};
@@ -33,7 +33,8 @@ impl<M: Memory> Processor<Running, M> {
 
     // One step more of a run, and counted.
     fn count_step(&mut self, counts: &mut Counts)
-        ensures counted { Room counts.old → counts.new ≡ tallied (stepped (seen M.words self.old)).outcome counts.old }
+        ensures capped { counts.new ≡ capped_tally (stepped (seen M.words self.old)).outcome counts.old }
+        ensures exact { Room counts.old → counts.new ≡ tallied (stepped (seen M.words self.old)).outcome counts.old }
         ensures after { seen M.words self.new ≡ (stepped (seen M.words self.old)).after }
         ensures outside { M.outer self.new.memory ≡ M.outer self.old.memory }
     {

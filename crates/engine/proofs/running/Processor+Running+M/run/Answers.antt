@@ -6,7 +6,7 @@ use Rattle.engine.proofs.running.Processor+Running+M.run.Goals as goal
 pub loop-preserved : goal.loop-preserved
 loop-preserved g c =
     let s = c.count_step.ensures in (
-      more c.args.steps c.loop.counter _ _ _ c.loop.counts _ _ c.loop-test.true c.loop.invariant.0 refl s.after (s.counted (omega (arith, c.loop.invariant.0.sum))),
+      more c.args.steps c.loop.counter _ _ _ c.loop.counts _ _ c.loop-test.true c.loop.invariant.0 refl s.after (s.exact (omega (arith, c.loop.invariant.0.sum))),
       s.outside ∙ c.loop.invariant.1,
     )
 
